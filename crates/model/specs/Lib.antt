@@ -1,0 +1,5 @@
+pub mod Limits
+pub mod Faults
+pub mod Names
+pub mod Tables
+pub mod Lawful
