@@ -3,7 +3,7 @@ ghost use mathlib.Core.Path.{_≡_};
 ghost use Prim.Native.Nat.{_≤_};
 ghost use lib.ListN.{length};
 ghost use Rattle.std.specs.shelf.Lists.{leading};
-ghost use Rattle.model.specs.Names.{letter, all-zero, lawful-name};
+ghost use Rattle.model.specs.Names.{letter, letters-of, all-zero, lawful-name};
 use crate::limits::NAME_BYTES;
 
 // Whether a byte may stand in a name.
@@ -26,6 +26,14 @@ pub fn letters(bytes: &[u8]) -> usize
         n += 1;
     }
     n
+}
+
+// A name without the zeros behind it.
+pub fn word(name: &[u8; NAME_BYTES]) -> &[u8]
+    ensures { λ r. ⌜ now r ≡ letters-of (now (name .entry)) ⌝ }
+{
+    let n = letters(name);
+    &name[0..n]
 }
 
 fn zeros(bytes: &[u8]) -> bool

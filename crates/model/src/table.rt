@@ -26,7 +26,7 @@ fn name_used(name: &[u8; NAME_BYTES], before: &[Stage]) -> bool
 }
 
 // The period of the last of these stages, or 0.
-fn last_period(before: &[Stage]) -> u32
+pub fn last_period(before: &[Stage]) -> u32
     ensures { λ r. ⌜ r ≡ last-period (now (before .entry)) ⌝ }
 {
     match before.last() {

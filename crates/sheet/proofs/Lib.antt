@@ -1,0 +1,10 @@
+mod Heads
+mod Values
+mod Lexing
+mod Lines
+mod Back
+mod Behind
+mod Forth
+mod Reading
+mod Lengths
+mod Writing

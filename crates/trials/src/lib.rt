@@ -1,0 +1,3 @@
+// Trials: examples that are run, over the public calls of the other crates.
+#[cfg(test)]
+mod sheets;
