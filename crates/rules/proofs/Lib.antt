@@ -21,3 +21,4 @@ pub mod ResponseShare
 pub mod HarmonicTimely
 pub mod HarmonicShare
 pub mod Capped
+pub mod Worked

@@ -6,7 +6,7 @@ use Rattle.rules.specs.Loads.{joined, single}
 use Rattle.rules.specs.Rules.{response, harmonic, use-cap, share-of}
 
 -- a share is that of a cost and a period after a load, whose members are told by cost, period and hold
-pub record WorkedExamples : Type 0 where
+pub record WorkedShares : Type 0 where
   pub after-two : share-of response (joined (single 1 4 0) 2 6) 4 8 ≡ 2
   -- a hold counts for the response rule, not for the harmonic one
   pub held-response : share-of response (single 2 4 2) 4 8 ≡ 2

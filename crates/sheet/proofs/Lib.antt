@@ -4,7 +4,7 @@ mod Lexing
 mod Lines
 mod Back
 mod Behind
-mod Forth
+pub mod Forth
 mod Reading
 mod Lengths
 mod Writing

@@ -1,0 +1,3 @@
+// What the product writes about plans, ticks and refusals, into pages that the caller owns.
+pub mod plan_page;
+pub mod refusal;
