@@ -3,14 +3,16 @@ use mathlib.Core.Path.{_≡_, refl, sym, ap, _∙_}
 use mathlib.Core.Bool.{Bool, true, false, _&&_, cond}
 use mathlib.Core.List.{List, [], _∷_, _++_}
 use mathlib.Core.Logic.{⊎-elim}
-use Prim.Native.Nat.{ℕ, zero, suc, _+_, _*_, _^_, _≤_, _<_}
+use Prim.Native.Nat.{ℕ, zero, suc, _+_, _-_, _*_, _^_, _≤_, _<_, min}
+use native.Mathlib.Nat.{sub-zero}
 use native.Mathlib.Omega.{arith}
 use lib.Chars.{codes}
 use lib.Dec.{eqb, ltb, leb}
-use lib.ListN.{length, getD, length-append, length-take}
+use lib.ListN.{length, getD, take, length-append, length-take}
 use Rattle.std.specs.Written.{decimal}
 use Rattle.std.specs.shelf.Lists.{joined}
 use Rattle.std.proofs.shelf.Decimals.{length-decimal-le}
+use Rattle.std.proofs.shelf.Lists.{take-all}
 use Rattle.std.proofs.shelf.Sums.{leading-le-length}
 use Rattle.std.proofs.shelf.Tests.{and-parts, eqb-true, cases-eq, cases-lt}
 use Rattle.std.proofs.shelf.Ways.{tells}
@@ -23,6 +25,7 @@ use Rattle.placing.specs.Placements.{no-placement}
 use Rattle.placing.specs.Plans.{Layout}
 use Rattle.placing.specs.Sound.{SoundPlacement, Sound}
 use Rattle.pages.specs.Refusals.{refusal-text}
+use Rattle.pages.specs.Ticks.{number-text, line-text}
 use Rattle.pages.specs.Plans.{whole-text, share-text, member-text, core-text, core-lines, plan-text}
 
 cause-small : (c : Cause) → cause-number c < 100
@@ -143,3 +146,28 @@ plan-short l narrow few y =
     let all = widths-short (l .cores) (l .cores) (l .placements) (y .each) in
     let number = length-decimal-le 1 (l .cores) (omega arith) (omega arith) (omega arith) in
     simp length-append (omega arith)
+
+-- numbers that fit 64 bits
+numbers-short : (ns : List ℕ) → ((i : ℕ) → i < length ns → getD ns i 0 < 2 ^ 64) → length (joined number-text ns) ≤ 21 * length ns
+numbers-short [] h = omega arith
+numbers-short (n ∷ ns) h =
+    let fits = h 0 (omega arith) in
+    let one = length-decimal-le 20 n (omega arith) (omega arith) fits in
+    let rest = numbers-short ns (λ i lt. h (suc i) (omega arith)) in
+    simp length-append (omega arith)
+
+pub line-short : (tick : ℕ) (numbers : List ℕ) → tick < 2 ^ 64 → length numbers ≤ 8 → ((i : ℕ) → i < length numbers → getD numbers i 0 < 2 ^ 64) → length (line-text tick numbers) ≤ 4096
+unfolding line-text
+line-short tick numbers fits few small =
+    let number = length-decimal-le 20 tick (omega arith) (omega arith) fits in
+    let all = numbers-short numbers small in
+    simp length-append (omega arith)
+
+-- no more numbers than an answer has
+pub numbers-shown : (cores count : ℕ) (answer : List ℕ) → length answer ≡ 8 → count ≡ min cores 8 → take (count - 0) answer ≡ take cores answer
+numbers-shown cores count answer eight e =
+    ap (λ k. take k answer) (sub-zero count)
+    ∙ ⊎-elim
+    (λ lt. take-all count answer (omega arith) ∙ sym (take-all cores answer (omega arith)))
+    (λ le. let same : count ≡ cores = omega arith in ap (λ k. take k answer) same)
+    (cases-lt 8 cores)

@@ -4,3 +4,4 @@ pub mod SoundPlans
 pub mod Behind
 pub mod HarmonicExact
 pub mod WholeLoads
+pub mod Worked

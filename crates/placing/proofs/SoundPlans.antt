@@ -1,4 +1,5 @@
 -- Plans that are sound.
+use mathlib.Core.Path.{_≡_, refl}
 use mathlib.Core.List.{List, []}
 use mathlib.Core.Bool.{Bool-set}
 use mathlib.Core.HLevel.{Π-prop}
@@ -12,7 +13,10 @@ use Rattle.rules.specs.Timing.{Timely}
 use lib.ListN.{length}
 use Rattle.std.proofs.shelf.Lists.{length-take}
 use Rattle.placing.specs.declared.plan.Plan.{Plan}
-use Rattle.placing.specs.Plans.{placements-of}
+use Rattle.std.specs.declared.result.Result.{Result}
+use Rattle.std.specs.declared.result.Result.the-variants.{Ok, Err}
+use Rattle.model.specs.declared.fault.Fault.{Fault}
+use Rattle.placing.specs.Plans.{Layout, placements-of, laid-out, place-answer, place-layout}
 use Rattle.placing.specs.declared.placement.Placement.{Placement}
 use Rattle.placing.specs.Sound.{SoundPlacement, Sound}
 
@@ -53,3 +57,12 @@ plan-sound p = sound-out (p .cores) (placements-of p) (p .sound)
 
 pub plan-few : (p : Plan) → length (placements-of p) ≤ 64
 plan-few p = let h = p .few in omega (arith, length-take (p .count) (p .placements))
+
+-- a call that answers what is laid out answers and leaves what placing does
+pub place-refused : (m : ℕ) (x : Result (List Placement) Fault) (before : Layout) (f : Fault) → Err f ≡ laid-out m x → (Err f ≡ place-answer x) × (before ≡ place-layout x m before)
+place-refused m (Ok ps) before f e = let z : _≡_ {A = ℕ} 0 1 = cc in absurd (omega arith)
+place-refused m (Err g) before f e = (cc, refl)
+
+pub place-filled : (m : ℕ) (x : Result (List Placement) Fault) (before after : Layout) → Ok after ≡ laid-out m x → (Ok tt ≡ place-answer x) × (after ≡ place-layout x m before)
+place-filled m (Ok ps) before after e = (refl, cc)
+place-filled m (Err g) before after e = let z : _≡_ {A = ℕ} 0 1 = cc in absurd (omega arith)

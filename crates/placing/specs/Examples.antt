@@ -12,6 +12,7 @@ use Rattle.model.specs.Faults.{fault}
 use Rattle.model.specs.Limits.{name-bytes}
 use Rattle.rules.specs.Examples.{WorkedShares}
 use Rattle.rules.specs.Rules.{response, harmonic, use-cap, count-cap}
+use Rattle.placing.specs.declared.placement.Placement.{Placement}
 use Rattle.placing.specs.Placements.{seat}
 use Rattle.placing.specs.Placing.{place-of}
 
@@ -31,11 +32,14 @@ grain cost period = stage-by (codes "grain") cost period
 abbrev pub scope : ℕ → ℕ → Stage
 scope cost period = stage-by (codes "scope") cost period
 
--- the worked session
+-- the worked session, and its plan
 abbrev pub session-table : List Stage
 session-table = audio 1 4 ∷ decode 2 6 ∷ grain 4 8 ∷ scope 5 12 ∷ []
 
-pub record WorkedExamples : Type 0 where
+abbrev pub session-plan : List Placement
+session-plan = seat (audio 1 4) 1 1 0 ∷ seat (decode 2 6) 1 2 0 ∷ seat (grain 4 8) 1 2 2 ∷ seat (scope 5 12) 2 5 0 ∷ []
+
+pub record WorkedPlacings : Type 0 where
   pub shares : WorkedShares
   -- the harmonic rule splits the second stage into 1 and 2, where response has no room for the third
   pub harmonic-splits :
@@ -47,5 +51,4 @@ pub record WorkedExamples : Type 0 where
   -- the second share uses more than the cap
   pub not-alone : place-of (use-cap 400000 response) 2 (audio 9 10 ∷ []) ≡ Err (fault Cause.NotAlone 1 Layer.Placing)
   pub session :
-      place-of (count-cap 12 (use-cap 900000 response)) 2 session-table
-      ≡ Ok (seat (audio 1 4) 1 1 0 ∷ seat (decode 2 6) 1 2 0 ∷ seat (grain 4 8) 1 2 2 ∷ seat (scope 5 12) 2 5 0 ∷ [])
+      place-of (count-cap 12 (use-cap 900000 response)) 2 session-table ≡ Ok session-plan

@@ -19,6 +19,16 @@ pub record Layout : Type 0 where
 abbrev pub layout-of : Plan → Layout
 layout-of p = record { cores = p .cores; placements = placements-of p }
 
+-- a plan that may have been refused, by what it keeps
+abbrev pub kept : Result Plan Fault → Result Layout Fault
+kept (Ok p) = Ok (layout-of p)
+kept (Err f) = Err f
+
+-- the layout of so many cores, unless placing refuses
+abbrev pub laid-out : ℕ → Result (List Placement) Fault → Result Layout Fault
+laid-out cores (Ok ps) = Ok (record { cores = cores; placements = ps })
+laid-out cores (Err f) = Err f
+
 abbrev pub place-answer : Result (List Placement) Fault → Result (Unit {0}) Fault
 place-answer (Ok ps) = Ok tt
 place-answer (Err f) = Err f

@@ -1,5 +1,4 @@
 // Placing: which core runs which stage, and how a stage is split over two neighbouring cores.
-pub mod examples;
 pub mod fit;
 pub mod placement;
 pub mod plan;

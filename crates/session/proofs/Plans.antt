@@ -13,8 +13,8 @@ use Rattle.sheet.specs.Exact.{SheetOf}
 use Rattle.sheet.proofs.Forth.{read-forth}
 use Rattle.placing.specs.declared.placement.Placement.{Placement}
 use Rattle.placing.specs.Placing.{place-of}
-use Rattle.placing.specs.Plans.{Layout, place-answer, place-layout}
-use Rattle.session.specs.Sessions.{session-rule, laid-out, plan-for}
+use Rattle.placing.specs.Plans.{Layout, laid-out, place-answer, place-layout}
+use Rattle.session.specs.Sessions.{session-rule, plan-for}
 
 -- the stages that were read are placed: the part of the table from 0 to n
 pub plan-read : (text : List ℕ) (table : List Stage) (m n : ℕ) → SheetOf text table m n → plan-for (read-of text) ≡ laid-out m (place-of session-rule m (take (n - 0) table))

@@ -1,5 +1,8 @@
 // Trials: examples that are run, over the public calls of the other crates.
+pub mod order;
 #[cfg(test)]
 mod piles;
+#[cfg(test)]
+mod runs;
 #[cfg(test)]
 mod sheets;

@@ -10,7 +10,7 @@ ghost use Rattle.placing.specs.Placing.{place-stage, place-stages, place-of};
 ghost use Rattle.placing.specs.CoreLoads.{members-of, Leaves};
 ghost use Rattle.placing.specs.Steps.{step-of};
 ghost use Rattle.placing.specs.Placements.{seat};
-ghost use Rattle.placing.specs.Plans.{layout-of, place-answer, place-layout};
+ghost use Rattle.placing.specs.Plans.{layout-of, kept, laid-out, place-answer, place-layout};
 use crate::placement::Placement;
 use crate::plan::NOWHERE;
 use crate::plan::Plan;
@@ -153,6 +153,20 @@ fn place_stages<R: PassingRule>(
     Ok(())
 }
 
+// The plan of a core count and a table.
+fn laid_out<R: PassingRule>(rule: &R, cores: usize, table: &[Stage]) -> Result<Plan, Fault>
+    ensures { λ r. ⌜ kept r ≡ laid-out cores (place-of (R·PassingRule .passes (now (rule .entry))) cores (now (table .entry))) ⌝ }
+{
+    check(&REVIEW_BOX, cores, table, Layer::Placing)?;
+    let mut placements = [NOWHERE; MOST_STAGES];
+    place_stages(rule, cores, table, &mut placements)?;
+    Ok(Plan {
+        cores,
+        count: table.len(),
+        placements,
+    })
+}
+
 impl Plan {
     // Fills the plan from a core count and a table, under a passing rule. A refusal leaves it as it was.
     pub fn place<R: PassingRule>(
@@ -164,12 +178,8 @@ impl Plan {
         ensures answer { λ r. ⌜ r ≡ place-answer (place-of (R·PassingRule .passes (now (rule .entry))) cores (now (table .entry))) ⌝ }
         ensures plan { λ _. ⌜ layout-of (now (self .exit)) ≡ place-layout (place-of (R·PassingRule .passes (now (rule .entry))) cores (now (table .entry))) cores (layout-of (now (self .entry))) ⌝ }
     {
-        check(&REVIEW_BOX, cores, table, Layer::Placing)?;
-        let mut placements = [NOWHERE; MOST_STAGES];
-        place_stages(rule, cores, table, &mut placements)?;
-        self.cores = cores;
-        self.count = table.len();
-        self.placements = placements;
+        let plan = laid_out(rule, cores, table)?;
+        *self = plan;
         Ok(())
     }
 }

@@ -4,7 +4,7 @@ use native.Mathlib.Omega.{arith}
 use borrow.Author.Needs.{needs}
 use Rattle.std.proofs.shelf.Results.{err-from-errBy}
 use Rattle.session.proofs.Plans.{plan-read, laid-refused, laid-placed}
-use Rattle.session.proofs.answer.plan_of.Needs as need
+use Rattle.session.proofs.planning.plan_of.Needs as need
 
 -- a table holds the stages of any sheet
 pub part-place-end : need.part-place-end

@@ -1,15 +1,12 @@
-// What the program answers to a sheet.
+// From the text of a sheet to its plan.
 ghost use mathlib.Core.Path.{_≡_};
-ghost use Rattle.std.specs.declared.result.Result.the-variants.{Ok};
 ghost use Rattle.sheet.specs.Sheets.{read-of};
-ghost use Rattle.writing.specs.Pages.{page-answer, page-after};
-ghost use Rattle.session.specs.Sessions.{plan-for, kept, output-of};
+ghost use Rattle.placing.specs.Plans.{kept};
+ghost use Rattle.session.specs.Sessions.{plan-for};
 use model::fault::Fault;
 use model::limits::MOST_STAGES;
 use model::limits::NAME_BYTES;
 use model::stage::Stage;
-use pages::plan_page::write_plan;
-use pages::refusal::write_refusal;
 use placing::plan::Plan;
 use rules::caps::CountCap;
 use rules::caps::CountCapRule;
@@ -31,7 +28,7 @@ const NOTHING: Stage = Stage {
 };
 
 // Reads the sheet and places its stages.
-fn plan_of(text: &[u8]) -> Result<Plan, Fault>
+pub fn plan_of(text: &[u8]) -> Result<Plan, Fault>
     ensures { λ r. ⌜ kept r ≡ plan-for (read-of (now (text .entry))) ⌝ }
 {
     let mut table = [NOTHING; MOST_STAGES];
@@ -47,15 +44,4 @@ fn plan_of(text: &[u8]) -> Result<Plan, Fault>
     let mut plan = Plan::empty();
     plan.place(&rule, counts.cores, &table[0..n])?;
     Ok(plan)
-}
-
-// Writes the plan page or the refusal line to the front of the page, and answers how many bytes it has.
-pub fn answer(text: &[u8], page: &mut [u8]) -> Result<usize, Fault>
-    ensures answer { λ r. ⌜ r ≡ page-answer (Ok (output-of (now (text .entry)))) (now (page .entry)) ⌝ }
-    ensures page { λ _. ⌜ now (page .exit) ≡ page-after (Ok (output-of (now (text .entry)))) (now (page .entry)) ⌝ }
-{
-    match plan_of(text) {
-        Ok(plan) => write_plan(&plan, page),
-        Err(fault) => write_refusal(fault, page),
-    }
 }

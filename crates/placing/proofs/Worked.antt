@@ -1,9 +1,10 @@
+-- The worked placings, by computing.
 use mathlib.Core.Path.{refl}
 use Rattle.model.specs.Tables.{breach-of, follows, first-bad, check-of}
 use Rattle.rules.proofs.Worked.{worked-shares}
-use Rattle.placing.proofs.examples.worked_examples.Needs as need
+use Rattle.placing.specs.Examples.{WorkedPlacings}
 
-pub returns : need.returns
+pub worked-placings : WorkedPlacings
 unfolding check-of first-bad follows breach-of
-returns c =
+worked-placings =
     record { shares = worked-shares; harmonic-splits = refl; response-refuses = refl; harmonic-refuses = refl; not-alone = refl; session = refl }
