@@ -1,5 +1,5 @@
 // Trials: examples that are run, over the public calls of the other crates.
-pub mod order;
+mod order;
 #[cfg(test)]
 mod piles;
 #[cfg(test)]

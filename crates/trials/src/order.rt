@@ -8,7 +8,10 @@ use rules::response::Response;
 use rules::response::ResponseRule;
 
 // The first answer of a table, and the first answer after it was placed anew.
-pub fn twice(cores: usize, table: &[Stage]) -> Result<([u8; MOST_CORES], [u8; MOST_CORES]), Fault> {
+pub(crate) fn twice(
+    cores: usize,
+    table: &[Stage],
+) -> Result<([u8; MOST_CORES], [u8; MOST_CORES]), Fault> {
     let mut plan = Plan::empty();
     plan.place(&Response, cores, table)?;
     let mut run = Run::open(plan);
