@@ -1,4 +1,6 @@
 // Passing rules: which loads one core serves in time, and what share of a core a load leaves.
+#![tactic(auto)]
+
 pub mod caps;
 pub mod harmonic;
 pub mod load;

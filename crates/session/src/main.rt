@@ -1,5 +1,7 @@
 // The program: reads a session sheet from standard input, and prints its plan page and the first ticks
 // of its run, or why there is no plan.
+#![tactic(auto)]
+
 use input::{MOST_INPUT, read_input};
 use output::write_session;
 use std::io;

@@ -1,4 +1,6 @@
 // Sheets: the text of a core count and a table of stages, read and written.
+#![tactic(auto)]
+
 mod cursor;
 mod forms;
 pub mod read;

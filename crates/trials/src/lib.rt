@@ -1,4 +1,6 @@
 // Trials: examples that are run, over the public calls of the other crates.
+#![tactic(auto)]
+
 mod order;
 #[cfg(test)]
 mod piles;

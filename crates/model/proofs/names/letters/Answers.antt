@@ -12,8 +12,8 @@ loop-n-preserved c =
     let e : prefix_len letter (drop n bs) ≡ cond (letter (get_or bs n 0)) (1 + prefix_len letter (drop (n + 1) bs)) 0 = at_drop_more (prefix_len letter) bs n 0 (omega arith) in
     (omega arith, grind (arith, nat_tests))
 
-pub returns-else-is-letter : goal.returns-else-is-letter
-returns-else-is-letter c =
+pub returns-else-is_letter : goal.returns-else-is_letter
+returns-else-is_letter c =
     let bs = c.args.bytes.now in
     let n = c.loop-n.n in
     let e : prefix_len letter (drop n bs) ≡ cond (letter (get_or bs n 0)) (1 + prefix_len letter (drop (n + 1) bs)) 0 = at_drop_more (prefix_len letter) bs n 0 (omega arith) in

@@ -2,10 +2,10 @@ use Rattle.std.proofs.Common.{rules}
 use Rattle.model.specs.Tables.{follows}
 use Rattle.model.proofs.table.can_follow.Goals as goal
 
-pub returns-then-is-name : goal.returns-then-is-name
+pub returns-then-is_name : goal.returns-then-is_name
 unfolding follows
-returns-then-is-name c = search rules
+returns-then-is_name c = search rules
 
-pub returns-else-is-name : goal.returns-else-is-name
+pub returns-else-is_name : goal.returns-else-is_name
 unfolding follows
-returns-else-is-name c = search rules
+returns-else-is_name c = search rules

@@ -4,9 +4,9 @@ use Rattle.model.specs.Tables.{check_of}
 use Rattle.model.proofs.Checks.{answers_exactly}
 use Rattle.model.proofs.table.check.Goals as goal
 
-pub returns-then-not-allows-cores : goal.returns-then-not-allows-cores
+pub returns-then-not-allows_cores : goal.returns-then-not-allows_cores
 unfolding check_of
-returns-then-not-allows-cores c =
+returns-then-not-allows_cores c =
     let e : _ ≡ check_of c.args.limits.now c.args.cores c.args.table.now c.args.layer = grind (arith, nat_tests) in
     record { answer = e; exactly = answers_exactly _ _ _ _ _ e }
 

@@ -3,8 +3,8 @@ use Rattle.std.proofs.lemmas.Bool.Decides.{nat_tests}
 use Rattle.model.proofs.Checks.{bad_step, bad_none}
 use Rattle.model.proofs.table.first_bad.Goals as goal
 
-pub returns-then-not-can-follow : goal.returns-then-not-can-follow
-returns-then-not-can-follow c =
+pub returns-then-not-can_follow : goal.returns-then-not-can_follow
+returns-then-not-can_follow c =
     let step = bad_step c.args.limits.now c.args.table.now c.loop-i.i (omega arith) in
     grind (arith, nat_tests)
 

@@ -10,7 +10,7 @@ use Rattle.model.proofs.table.name_used.Goals.{After-eq}
 
 -- what the comparison of the two names answered
 tested : (c : After-eq) → bytes_eq (stage c.args.before.now c.loop-stage.stage-index).name c.args.name.now ≡ c.eq.result
-tested c = same_from_decides _ _ (bytes_eq-Decides _ _) (slice_eq-Decides Decides-eqb _ _ _ c.eq.ensures)
+tested c = same_from_decides _ _ (bytes_eq-Decides (stage c.args.before.now c.loop-stage.stage-index).name c.args.name.now) (slice_eq-Decides Decides-eqb _ _ _ c.eq.ensures)
 
 pub returns-then-eq : goal.returns-then-eq
 returns-then-eq c =

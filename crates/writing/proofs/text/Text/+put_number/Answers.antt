@@ -12,6 +12,6 @@ returns t c =
     let text = text_of c.args.self.now in
     c.put.ensures
     ∙ elim c.if-n-ge10.branch [
-      | then-n-ge10 w ↦ ap (λ l. cut (l ++ (48 + n % 10) ∷ [])) (ap text_of w.self-is ∙ w.put-number.ensures) ∙ number_more text n (omega arith) (omega arith)
+      | then-n-ge10 w ↦ ap (λ l. cut (l ++ (48 + n % 10) ∷ [])) (ap text_of w.self-is ∙ w.put_number.ensures) ∙ number_more text n (omega arith) (omega arith)
       | else-n-ge10 w ↦ ap (λ (s : Text). cut (text_of s ++ (48 + n % 10) ∷ [])) w.self-is ∙ ap (λ l. cut (text ++ l)) (number_one n (omega arith))
     ]
