@@ -11,6 +11,6 @@ returns c =
     let start = text_of c.args.text.now in
     let head = codes "(core " ++ decimal c.args.core in
     let members = flat_map (member_text c.args.core) c.args.placements.now in
-    let a = put_more start (codes "(core ") (decimal c.args.core) c.put.ensures c.put-number.ensures in
-    let b = put_more start head members a c.put-members.ensures in
+    let a = put_more start (codes "(core ") (decimal c.args.core) c.put.ensures c.put_number.ensures in
+    let b = put_more start head members a c.put_members.ensures in
     put_more start (head ++ members) (codes ")\n") b c.put-2.ensures

@@ -7,4 +7,4 @@ pub loop-i-init : goal.loop-i-init
 loop-i-init c = simp append-nil (whole c.args.text.now)
 
 pub loop-i-preserved : goal.loop-i-preserved
-loop-i-preserved c = simp (c.put-core.ensures, c.loop-i.invariant, cut_again, append_assoc, add-one)
+loop-i-preserved c = simp (c.put_core.ensures, c.loop-i.invariant, cut_again, append_assoc, add-one)

@@ -17,7 +17,7 @@ loop-placement-preserved c =
     let ps = c.args.placements.now in
     let i = c.loop-placement.placement-index in
     let one = get_or ps i no_placement in
-    put_more start (flat_map (member_text c.args.core) (take i ps)) (member_text c.args.core one) c.loop-placement.invariant c.put-member.ensures
+    put_more start (flat_map (member_text c.args.core) (take i ps)) (member_text c.args.core one) c.loop-placement.invariant c.put_member.ensures
     ∙ ap (λ l. cut (start ++ l)) (flat_map_more (member_text c.args.core) [] (take i ps) one ∙ ap (flat_map (member_text c.args.core)) (sym (take_more ps i no_placement c.loop-placement-test.true)))
 
 pub returns : goal.returns

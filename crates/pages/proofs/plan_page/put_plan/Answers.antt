@@ -5,4 +5,4 @@ use Rattle.pages.proofs.plan_page.put_plan.Goals as goal
 
 pub returns : goal.returns
 unfolding plan_text
-returns c = simp (c.put-cores.ensures, c.placements.ensures, c.put-2.ensures, c.put-number.ensures, c.cores-cores.ensures, c.put.ensures, cut_again) (simp append_assoc)
+returns c = simp (c.put_cores.ensures, c.placements.ensures, c.put-2.ensures, c.put_number.ensures, c.cores-cores.ensures, c.put.ensures, cut_again) (simp append_assoc)

@@ -15,5 +15,5 @@ returns c =
     let number = decimal c.args.share in
     let a = put_more start head name c.put.ensures (c.put-2.ensures ∙ ap (λ l. cut (text_of c.put.new.self ++ l)) c.word.ensures) in
     let b = put_more start (head ++ name) (codes " ") a c.put-3.ensures in
-    let d = put_more start ((head ++ name) ++ codes " ") number b c.put-number.ensures in
+    let d = put_more start ((head ++ name) ++ codes " ") number b c.put_number.ensures in
     put_more start (((head ++ name) ++ codes " ") ++ number) (codes ")") d c.put-4.ensures

@@ -10,5 +10,5 @@ pub returns : goal.returns
 returns c =
     let plan = c.args.plan.now in
     let short = plan_short (layout_of plan) plan.narrow (plan_few plan) (plan_sound plan) in
-    let is = put_alone (plan_text (layout_of plan)) c.new-text.ensures c.put-plan.ensures (omega arith) in
+    let is = put_alone (plan_text (layout_of plan)) c.new-text.ensures c.put_plan.ensures (omega arith) in
     record { answer = cc; page = cc }

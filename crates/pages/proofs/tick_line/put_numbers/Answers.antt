@@ -18,7 +18,7 @@ loop-number-preserved c =
     let before = flat_map number_text (take i ns) in
     let one = decimal (get_or ns i 0) in
     let gap = put_more start before (codes " ") c.loop-number.invariant c.put.ensures in
-    let all = put_more start (before ++ codes " ") one gap c.put-number.ensures in
+    let all = put_more start (before ++ codes " ") one gap c.put_number.ensures in
     all
     ∙ ap (λ l. cut (start ++ l)) (append_assoc before (codes " ") one ∙ flat_map_more number_text [] (take i ns) (get_or ns i 0) ∙ ap (flat_map number_text) (sym (take_more ns i 0 c.loop-number-test.true)))
 

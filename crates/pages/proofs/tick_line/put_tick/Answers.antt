@@ -8,4 +8,4 @@ pub returns : goal.returns
 unfolding line_text
 returns c =
     let shown = numbers_shown c.args.cores c.min-count.result c.args.answer.now (omega arith) c.min-count.ensures in
-    simp (c.put-2.ensures, c.put-numbers.ensures, shown, c.put-number.ensures, c.put.ensures, cut_again) (simp append_assoc)
+    simp (c.put-2.ensures, c.put_numbers.ensures, shown, c.put_number.ensures, c.put.ensures, cut_again) (simp append_assoc)

@@ -13,5 +13,5 @@ returns c =
     let each : (i : ℕ) → i < length answer → length (decimal (get_or answer i 0)) ≤ 20 =
     λ i lt. let byte : get_or answer i 0 < 256 = search rules in length-decimal-le 20 _ (omega arith) (omega arith) (omega arith) in
     let short = tick_short 20 tick c.args.cores answer number (omega arith) each in
-    let is = put_alone (tick_text tick c.args.cores answer) c.new-text.ensures c.put-tick.ensures (omega arith) in
+    let is = put_alone (tick_text tick c.args.cores answer) c.new-text.ensures c.put_tick.ensures (omega arith) in
     record { answer = cc; page = cc }

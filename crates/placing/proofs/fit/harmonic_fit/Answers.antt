@@ -6,9 +6,9 @@ use Rattle.placing.proofs.HarmonicExact.{harmonic_exact}
 use Rattle.placing.proofs.WholeLoads.{last_is, last_short}
 use Rattle.placing.proofs.fit.harmonic_fit.Goals as goal
 
-pub work-in-work-requires : goal.work-in-work-requires
-work-in-work-requires c =
-    let lawful : Lawful review_box c.args.cores c.args.table.now = c.in-ok-check.ensures.exactly.0 refl in
+pub work_in-work-requires : goal.work_in-work-requires
+work_in-work-requires c =
+    let lawful : Lawful review_box c.args.cores c.args.table.now = c.in_ok-check.ensures.exactly.0 refl in
     record { lawful = lawful.table; few = lawful.most; short = omega (arith, last_short c.args.table.now lawful.table) }
 
 pub returns-then-work-cores : goal.returns-then-work-cores

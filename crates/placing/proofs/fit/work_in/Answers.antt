@@ -15,8 +15,8 @@ returns c =
     let done = asked_end c.args.ticks c.args.table.now c.loop-stage.stage-index c.loop-stage-test.false in
     omega arith
 
-pub overflow-add-work : goal.overflow-add-work
-overflow-add-work c =
+pub overflow_add-work : goal.overflow_add-work
+overflow_add-work c =
     let i = c.loop-stage.stage-index in
     let little = asked_little c.args.ticks (stage c.args.table.now i) (c.requires.lawful.each i c.loop-stage-test.true).cost_most in
     omega arith

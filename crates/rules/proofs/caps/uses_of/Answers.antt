@@ -6,17 +6,17 @@ use Rattle.rules.specs.Rules.{use_of, uses}
 use Rattle.rules.proofs.Capped.{use_small}
 use Rattle.rules.proofs.caps.uses_of.Goals as goal
 
-small : (c : goal.After-use-of-sum) → c.use-of-sum.result ≤ 1000000
+small : (c : goal.After-use_of-sum) → c.use_of-sum.result ≤ 1000000
 small c =
-    let is = c.use-of-sum.ensures in
+    let is = c.use_of-sum.ensures in
     omega (arith, use_small (member c.args.load.now c.loop-m.m-index) (c.requires.each c.loop-m.m-index c.loop-m-test.true))
 
-pub overflow-add-sum : goal.overflow-add-sum
-overflow-add-sum c = omega (arith, small c)
+pub overflow_add-sum : goal.overflow_add-sum
+overflow_add-sum c = omega (arith, small c)
 
 pub loop-m-preserved : goal.loop-m-preserved
 loop-m-preserved c =
-    let is = c.use-of-sum.ensures in
+    let is = c.use_of-sum.ensures in
     (omega (arith, sum_by_more use_of c.args.load.now c.loop-m.m-index nobody c.loop-m-test.true), omega (arith, small c))
 
 pub returns : goal.returns

@@ -6,8 +6,8 @@ use Rattle.rules.specs.Rules.{work, work_in}
 use Rattle.rules.proofs.HarmonicShare.{work_small}
 use Rattle.rules.proofs.harmonic.work_of.Goals as goal
 
-pub overflow-add-work : goal.overflow-add-work
-overflow-add-work c =
+pub overflow_add-work : goal.overflow_add-work
+overflow_add-work c =
     let i = c.loop-m.m-index in
     omega (arith, work_small (member c.args.load.now i) c.args.period (c.requires.few.each i c.loop-m-test.true), c.requires.few.few)
 

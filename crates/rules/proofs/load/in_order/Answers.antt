@@ -7,13 +7,13 @@ use Rattle.rules.proofs.load.in_order.Goals as goal
 pub loop-m-preserved : goal.loop-m-preserved
 loop-m-preserved c =
     let more = at_drop_more (orderly c.loop-m.before) c.args.members.now c.loop-m.m-index nobody c.loop-m-test.true in
-    let follows = c.if-not-may-follow.ensures in
+    let follows = c.if-not-may_follow.ensures in
     search rules
 
-pub returns-then-not-may-follow : goal.returns-then-not-may-follow
-returns-then-not-may-follow c =
+pub returns-then-not-may_follow : goal.returns-then-not-may_follow
+returns-then-not-may_follow c =
     let more = at_drop_more (orderly c.loop-m.before) c.args.members.now c.loop-m.m-index nobody c.loop-m-test.true in
-    let follows = c.if-not-may-follow.ensures in
+    let follows = c.if-not-may_follow.ensures in
     search rules
 
 pub returns : goal.returns

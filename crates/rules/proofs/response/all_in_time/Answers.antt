@@ -7,8 +7,8 @@ use Rattle.rules.proofs.Small.{take_modest}
 use Rattle.rules.proofs.ResponseShare.{covered_next}
 use Rattle.rules.proofs.response.all_in_time.Goals as goal
 
-pub covering-moment-requires : goal.covering-moment-requires
-covering-moment-requires c =
+pub covering_moment-requires : goal.covering_moment-requires
+covering_moment-requires c =
     let i = c.loop-i.i in
     let m = c.requires.each i c.loop-i-test.true in
     record { few = take_modest c.args.load.now (i - 0) c.requires; small = omega (arith, m.kept.most, m.kept.fits, m.held); short = m.kept.most }
@@ -18,16 +18,16 @@ loop-i-preserved c =
     let l = c.args.load.now in
     let i = c.loop-i.i in
     let next = covered_next l i c.loop-i-test.true in
-    let found = ap is_some c.covering-moment.ensures in
+    let found = ap is_some c.covering_moment.ensures in
     let front = ap (λ n. covered (take n l) (member l i)) (sub-zero i) in
     search rules
 
-pub returns-then-is-none : goal.returns-then-is-none
-returns-then-is-none c =
+pub returns-then-is_none : goal.returns-then-is_none
+returns-then-is_none c =
     let l = c.args.load.now in
     let i = c.loop-i.i in
     let next = covered_next l i c.loop-i-test.true in
-    let found = ap is_some c.covering-moment.ensures in
+    let found = ap is_some c.covering_moment.ensures in
     let front = ap (λ n. covered (take n l) (member l i)) (sub-zero i) in
     search rules
 

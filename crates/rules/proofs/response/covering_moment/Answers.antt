@@ -5,13 +5,13 @@ use Rattle.rules.specs.Moments.{least_none, least_found}
 use Rattle.rules.specs.Asked.{between_none, interference_small}
 use Rattle.rules.proofs.response.covering_moment.Goals as goal
 
-pub overflow-add-demand : goal.overflow-add-demand
-overflow-add-demand c = omega (arith, interference_small c.args.before.now c.loop-t.t c.requires.few (omega arith))
+pub overflow_add-demand : goal.overflow_add-demand
+overflow_add-demand c = omega (arith, interference_small c.args.before.now c.loop-t.t c.requires.few (omega arith))
 
 pub returns-then-demand-t : goal.returns-then-demand-t
 returns-then-demand-t c =
     let l = c.args.before.now in
-    let own = c.args.own_val in
+    let own = c.args.own in
     let t = c.loop-t.t in
     let is = c.interference.ensures in
     least_found (covers l own) c.args.limit t c.loop-t.invariant.0 (omega arith) (le-leb (own + interference l t) t (omega arith)) c.loop-t.invariant.1
@@ -19,7 +19,7 @@ returns-then-demand-t c =
 pub loop-t-preserved : goal.loop-t-preserved
 loop-t-preserved c =
     let l = c.args.before.now in
-    let own = c.args.own_val in
+    let own = c.args.own in
     let t = c.loop-t.t in
     let is = c.interference.ensures in (
       omega arith,
@@ -31,4 +31,4 @@ loop-t-preserved c =
     )
 
 pub returns : goal.returns
-returns c = least_none (covers c.args.before.now c.args.own_val) c.args.limit (λ s some le. c.loop-t.invariant.1 s some (omega arith))
+returns c = least_none (covers c.args.before.now c.args.own) c.args.limit (λ s some le. c.loop-t.invariant.1 s some (omega arith))

@@ -17,11 +17,11 @@ module _ (c : goal.After-releases) where
   small : here.cost * c.releases.result ≤ 180000
   small = omega (arith, same, asked_small here c.args.t (c.requires.few.each c.loop-m.m-index c.loop-m-test.true) c.requires.short)
 
-pub overflow-mul-sum : goal.overflow-mul-sum
-overflow-mul-sum c = omega (arith, small c)
+pub overflow_mul-sum : goal.overflow_mul-sum
+overflow_mul-sum c = omega (arith, small c)
 
-pub overflow-add-sum : goal.overflow-add-sum
-overflow-add-sum c = omega (arith, small c, c.requires.few.few)
+pub overflow_add-sum : goal.overflow_add-sum
+overflow_add-sum c = omega (arith, small c, c.requires.few.few)
 
 pub loop-m-preserved : goal.loop-m-preserved
 loop-m-preserved c = (omega (arith, same c, sum_by_more (asked c.args.t) c.args.members.now c.loop-m.m-index nobody c.loop-m-test.true), omega (arith, small c))

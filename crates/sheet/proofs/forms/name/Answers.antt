@@ -7,5 +7,5 @@ use Rattle.sheet.proofs.forms.name.Goals as goal
 
 pub returns : goal.returns
 returns c =
-    ap Some (ap₂ ◌++◌ c.copy-from-slice.ensures.after (simp sub-zero (drop-replicate (length c.args.word.now) name_bytes 0)))
+    ap Some (ap₂ ◌++◌ c.copy_from_slice.ensures.after (simp sub-zero (drop-replicate (length c.args.word.now) name_bytes 0)))
     ∙ sym (cond-true _ _ _ (le-leb (length c.args.word.now) name_bytes (omega arith)))

@@ -6,11 +6,11 @@ use Rattle.sheet.specs.Forms.{value}
 use Rattle.sheet.proofs.Values.{cap_small}
 use Rattle.sheet.proofs.forms.number.Goals as goal
 
-pub overflow-mul-value : goal.overflow-mul-value
-overflow-mul-value c = omega (arith, cap_small c.loop-digit.digit-index (omega arith))
+pub overflow_mul-value : goal.overflow_mul-value
+overflow_mul-value c = omega (arith, cap_small c.loop-digit.digit-index (omega arith))
 
-pub overflow-add-value : goal.overflow-add-value
-overflow-add-value c = omega (arith, cap_small c.loop-digit.digit-index (omega arith))
+pub overflow_add-value : goal.overflow_add-value
+overflow_add-value c = omega (arith, cap_small c.loop-digit.digit-index (omega arith))
 
 pub loop-digit-preserved : goal.loop-digit-preserved
 loop-digit-preserved c =

@@ -2,17 +2,17 @@ use Rattle.std.proofs.Common.{rules}
 use Rattle.sheet.specs.Sheets.{read_of}
 use Rattle.sheet.proofs.read.gather.Goals as goal
 
-pub returns-in-err-cores : goal.returns-in-err-cores
+pub returns-in_err-cores : goal.returns-in_err-cores
 unfolding read_of
-returns-in-err-cores c = search rules
+returns-in_err-cores c = search rules
 
-pub returns-then-not-allows-cores : goal.returns-then-not-allows-cores
+pub returns-then-not-allows_cores : goal.returns-then-not-allows_cores
 unfolding read_of
-returns-then-not-allows-cores c = search rules
+returns-then-not-allows_cores c = search rules
 
-pub returns-in-err-stages : goal.returns-in-err-stages
+pub returns-in_err-stages : goal.returns-in_err-stages
 unfolding read_of
-returns-in-err-stages c = search rules
+returns-in_err-stages c = search rules
 
 pub returns-then-stages-eq0 : goal.returns-then-stages-eq0
 unfolding read_of

@@ -5,12 +5,12 @@ use Rattle.sheet.proofs.token.digits.Goals as goal
 
 pub loop-n-preserved : goal.loop-n-preserved
 loop-n-preserved c =
-    (omega arith, omega (arith, prefix_len-drop_yes digit c.args.bytes.now c.loop-n.n 0 (omega arith) (sym c.if-is-digit.ensures)))
+    (omega arith, omega (arith, prefix_len-drop_yes digit c.args.bytes.now c.loop-n.n 0 (omega arith) (sym c.if-is_digit.ensures)))
 
-pub returns-else-is-digit : goal.returns-else-is-digit
-returns-else-is-digit c =
+pub returns-else-is_digit : goal.returns-else-is_digit
+returns-else-is_digit c =
     record {
-      value = omega (arith, prefix_len-drop_no digit c.args.bytes.now c.loop-n.n 0 (omega arith) (sym c.if-is-digit.ensures));
+      value = omega (arith, prefix_len-drop_no digit c.args.bytes.now c.loop-n.n 0 (omega arith) (sym c.if-is_digit.ensures));
       within = omega arith;
     }
 

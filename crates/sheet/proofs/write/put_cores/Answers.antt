@@ -8,5 +8,5 @@ pub returns : goal.returns
 unfolding cores_text
 returns c =
     let start = text_of c.args.text.now in
-    let number = put_more start (codes "(cores ") (decimal c.args.cores) c.put.ensures c.put-number.ensures in
+    let number = put_more start (codes "(cores ") (decimal c.args.cores) c.put.ensures c.put_number.ensures in
     put_more start (codes "(cores " ++ decimal c.args.cores) (codes ")\n") number c.put-2.ensures

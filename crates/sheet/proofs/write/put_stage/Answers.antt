@@ -19,7 +19,7 @@ returns c =
     let g = f ++ decimal s.period in
     let name = put_more start a (letters_of s.name) c.put.ensures (c.put-2.ensures ∙ ap (λ l. cut (text_of c.put.new.self ++ l)) c.word.ensures) in
     let cost_head = put_more start b (codes " (cost ") name c.put-3.ensures in
-    let cost = put_more start d (decimal s.cost) cost_head c.put-number.ensures in
+    let cost = put_more start d (decimal s.cost) cost_head c.put_number.ensures in
     let period_head = put_more start e (codes ") (period ") cost c.put-4.ensures in
-    let period = put_more start f (decimal s.period) period_head c.put-number-2.ensures in
+    let period = put_more start f (decimal s.period) period_head c.put_number-2.ensures in
     put_more start g (codes "))\n") period c.put-5.ensures

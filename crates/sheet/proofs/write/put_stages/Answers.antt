@@ -17,7 +17,7 @@ loop-stage-preserved c =
     let xs = c.args.table.now in
     let i = c.loop-stage.stage-index in
     let one = get_or xs i no_stage in
-    put_more start (flat_map stage_text (take i xs)) (stage_text one) c.loop-stage.invariant c.put-stage.ensures
+    put_more start (flat_map stage_text (take i xs)) (stage_text one) c.loop-stage.invariant c.put_stage.ensures
     ∙ ap (λ l. cut (start ++ l)) (flat_map_more stage_text [] (take i xs) one ∙ ap (flat_map stage_text) (sym (take_more xs i no_stage c.loop-stage-test.true)))
 
 pub returns : goal.returns

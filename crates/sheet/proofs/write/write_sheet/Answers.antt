@@ -9,9 +9,9 @@ use Rattle.sheet.proofs.Lengths.{sheet_short}
 use Rattle.sheet.proofs.Writing.{page_some, written}
 use Rattle.sheet.proofs.write.write_sheet.Goals as goal
 
-pub returns-in-err-check : goal.returns-in-err-check
+pub returns-in_err-check : goal.returns-in_err-check
 unfolding page_of
-returns-in-err-check c =
+returns-in_err-check c =
     let a : _ ≡ page_answer (page_of c.args.cores c.args.table.now) c.args.page.now = search rules in
     let p : _ ≡ page_after (page_of c.args.cores c.args.table.now) c.args.page.now = search rules in
     let w = written _ _ _ _ _ a p in
@@ -22,11 +22,11 @@ unfolding sheet_of
 returns c =
     let m = c.args.cores in
     let ss = c.args.table.now in
-    let checked = c.in-ok-check.ensures in
+    let checked = c.in_ok-check.ensures in
     let lawful = checked.exactly.0 refl in
-    let cores : _ ≡ cut ([] ++ cores_text m) = c.put-cores.ensures ∙ ap (λ l. cut (l ++ cores_text m)) c.new-text.ensures in
-    let all = put_more [] (cores_text m) (flat_map stage_text ss) cores c.put-stages.ensures in
-    let is : text_of c.put-stages.new.text ≡ sheet_of m ss = all ∙ cut_whole (sheet_of m ss) (omega (arith, sheet_short m ss lawful)) in
+    let cores : _ ≡ cut ([] ++ cores_text m) = c.put_cores.ensures ∙ ap (λ l. cut (l ++ cores_text m)) c.new-text.ensures in
+    let all = put_more [] (cores_text m) (flat_map stage_text ss) cores c.put_stages.ensures in
+    let is : text_of c.put_stages.new.text ≡ sheet_of m ss = all ∙ cut_whole (sheet_of m ss) (omega (arith, sheet_short m ss lawful)) in
     let text = ap Ok is ∙ sym (page_some m ss (sym checked.answer)) in
     let a = c.deliver.ensures.answer ∙ ap (λ t. page_answer t c.args.page.now) text in
     let p = c.deliver.ensures.page ∙ ap (λ t. page_after t c.args.page.now) text in

@@ -3,5 +3,5 @@ use Rattle.placing.proofs.SoundPlans.{plan_sound, plan_few}
 use Rattle.dispatch.proofs.Keeping.{within_zeros}
 use Rattle.dispatch.proofs.run.Run.open.Goals as goal
 
-pub invariant-of-result : goal.invariant-of-result
-invariant-of-result c = let plan = c.args.plan in (within_zeros plan.cores (placements_of plan) (plan_sound plan) (plan_few plan) _, tt)
+pub invariant_of-result : goal.invariant_of-result
+invariant_of-result c = let plan = c.args.plan in record { within = within_zeros plan.cores (placements_of plan) (plan_sound plan) (plan_few plan) _ }

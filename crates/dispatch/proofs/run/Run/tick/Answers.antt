@@ -10,22 +10,28 @@ use Rattle.dispatch.proofs.Idle.{on_the_box, answer_whole, after_whole}
 use Rattle.dispatch.proofs.Keeping.{within_ticked}
 use Rattle.dispatch.proofs.run.Run.tick.Goals as goal
 
-pub take-turns-requires : goal.take-turns-requires
-take-turns-requires c =
+pub take_turns-requires : goal.take_turns-requires
+take_turns-requires c =
     let run = c.args.self.now in
     let plan = run.plan in
     let few = plan_few plan in
     let long : length (placements_of plan) ≤ length run.states = omega arith in
-    subst (λ (q : List Placement). (length q ≤ 64) × (length q ≤ length run.states) × ((i : ℕ) → i < length q → SoundPlacement 8 (at q i)) × Within q run.states × (replicate {A = ℕ} 8 0 ≡ replicate 8 0)) (sym c.placements.ensures)
-    (few, long, λ i lt. on_the_box plan.cores (at (placements_of plan) i) plan.narrow ((plan_sound plan).each i lt), run.within, refl)
+    let is = sym c.placements.ensures in
+    record {
+      placements_len_bound = subst (λ (q : List Placement). length q ≤ 64) is few;
+      placements_in_bounds = subst (λ (q : List Placement). length q ≤ length run.states) is long;
+      by_index = subst (λ (q : List Placement). (i : ℕ) → i < length q → SoundPlacement 8 (at q i)) is (λ i lt. on_the_box plan.cores (at (placements_of plan) i) plan.narrow ((plan_sound plan).each i lt));
+      within = subst (λ (q : List Placement). Within q run.states) is run.within;
+      row_value = refl;
+    }
 
-pub invariant-of-self : goal.invariant-of-self
-invariant-of-self c =
+pub invariant_of-self : goal.invariant_of-self
+invariant_of-self c =
     let run = c.args.self.now in
     let ps = placements_of run.plan in
     let few : length ps ≤ length run.states = omega (arith, plan_few run.plan) in
-    let left = c.take-turns.ensures.states ∙ ap (λ q. after_tick 8 q run.states) c.placements.ensures ∙ after_whole run.plan.cores ps run.states run.plan.narrow (plan_sound run.plan) in
-    (subst (λ ss. Within ps ss) (sym left) (within_ticked run.plan.cores ps run.states few run.within), tt)
+    let left = c.take_turns.ensures.states ∙ ap (λ q. after_tick 8 q run.states) c.placements.ensures ∙ after_whole run.plan.cores ps run.states run.plan.narrow (plan_sound run.plan) in
+    record { within = subst (λ ss. Within ps ss) (sym left) (within_ticked run.plan.cores ps run.states few run.within) }
 
 pub returns : goal.returns
 returns c =
@@ -33,7 +39,7 @@ returns c =
     let ps = placements_of run.plan in
     let sound = plan_sound run.plan in
     record {
-      answers = c.take-turns.ensures.row ∙ ap (λ q. answer_of 8 q run.states) c.placements.ensures ∙ answer_whole run.plan.cores ps run.states run.plan.narrow sound;
+      answers = c.take_turns.ensures.row ∙ ap (λ q. answer_of 8 q run.states) c.placements.ensures ∙ answer_whole run.plan.cores ps run.states run.plan.narrow sound;
       plan = refl;
-      states = c.take-turns.ensures.states ∙ ap (λ q. after_tick 8 q run.states) c.placements.ensures ∙ after_whole run.plan.cores ps run.states run.plan.narrow sound;
+      states = c.take_turns.ensures.states ∙ ap (λ q. after_tick 8 q run.states) c.placements.ensures ∙ after_whole run.plan.cores ps run.states run.plan.narrow sound;
     }

@@ -2,5 +2,5 @@ use Rattle.std.proofs.Common.{lit≤}
 use Rattle.placing.proofs.SoundPlans.{sound_none}
 use Rattle.placing.proofs.plan.Plan.empty.Goals as goal
 
-pub invariant-of-result : goal.invariant-of-result
-invariant-of-result c = (lit≤ tt, (lit≤ tt, (∣ sound_none _ ∣₁, tt)))
+pub invariant_of-result : goal.invariant_of-result
+invariant_of-result c = record { narrow = lit≤ tt; few = lit≤ tt; sound = ∣ sound_none _ ∣₁ }

@@ -4,9 +4,9 @@ use Rattle.model.specs.Lawful.{Lawful}
 use Rattle.placing.proofs.Soundness.{stages_sound}
 use Rattle.placing.proofs.plan.place.laid_out.Goals as goal
 
-pub invariant-of-result : goal.invariant-of-result
-invariant-of-result g c =
+pub invariant_of-result : goal.invariant_of-result
+invariant_of-result g c =
     let passes = g.R.PassingRule.passes c.args.rule.now in
-    let lawful : Lawful review_box c.args.cores c.args.table.now = c.in-ok-check.ensures.exactly.0 refl in
-    let sound = stages_sound passes c.args.cores (g.met.R.PassingRule.lawful_only c.args.rule.now) (g.met.R.PassingRule.timely c.args.rule.now) lawful.cores_least c.args.table.now _ lawful.table.each c.in-ok-place-stages.ensures in
-    (omega (arith, lawful.cores_most), (omega (arith, lawful.most), (∣ sound ∣₁, tt)))
+    let lawful : Lawful review_box c.args.cores c.args.table.now = c.in_ok-check.ensures.exactly.0 refl in
+    let sound = stages_sound passes c.args.cores (g.met.R.PassingRule.lawful_only c.args.rule.now) (g.met.R.PassingRule.timely c.args.rule.now) lawful.cores_least c.args.table.now _ lawful.table.each c.in_ok-place_stages.ensures in
+    record { narrow = omega (arith, lawful.cores_most); few = omega (arith, lawful.most); sound = ∣ sound ∣₁ }

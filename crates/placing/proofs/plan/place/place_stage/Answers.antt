@@ -18,8 +18,8 @@ loop-at-preserved g c =
     let step = turn passes c.args.cores c.loop-at.at.core (members_of c.loop-at.at) c.args.stage.now (omega arith) in
     (grind (arith, nat_tests), omega arith, grind (arith, nat_tests))
 
-pub overflow-sub-rest : goal.overflow-sub-rest
-overflow-sub-rest g c =
+pub overflow_sub-rest : goal.overflow_sub-rest
+overflow_sub-rest g c =
     let passes = g.R.PassingRule.passes c.args.rule.now in
     let within = (share_is passes (members_of c.loop-at.at) c.args.stage.now.cost c.args.stage.now.period).within in
     grind (arith, nat_tests)

@@ -8,27 +8,27 @@ pub returns-then-below-eq0 : goal.returns-then-below-eq0
 returns-then-below-eq0 g c =
     let a = c.args in
     let s = a.self.now in
-    none_below (g.R.PassingRule.passes s.below) a.load.now a.cost a.period (λ l. leb (uses l) s.most) (sym c.if-below-eq0.true ∙ c.share_below.ensures)
+    none_below (g.R.PassingRule.passes s.below) a.load.now a.cost a.period (λ l. leb (uses l) s.most) (sym c.if-below-eq0.true ∙ c.share-below.ensures)
 
-pub uses-of-used-requires : goal.uses-of-used-requires
-uses-of-used-requires g c =
+pub uses_of-used-requires : goal.uses_of-used-requires
+uses_of-used-requires g c =
     let a = c.args in
     let s = a.self.now.below in
-    let all = load_modest (g.R.PassingRule.passes s) (g.met.R.PassingRule.lowering s) (g.met.R.PassingRule.lawful_only s) a.load.now a.cost a.period c.share_below.result c.share_below.ensures (omega arith) in
+    let all = load_modest (g.R.PassingRule.passes s) (g.met.R.PassingRule.lowering s) (g.met.R.PassingRule.lawful_only s) a.load.now a.cost a.period c.share-below.result c.share-below.ensures (omega arith) in
     search (rules, take_modest)
 
 pub returns-then-self-used : goal.returns-then-self-used
 returns-then-self-used g c =
     let a = c.args in
     let s = a.self.now.below in
-    let used = c.uses-of-used.ensures in
-    use_full (g.R.PassingRule.passes s) (g.met.R.PassingRule.lowering s) (g.met.R.PassingRule.lawful_only s) a.load.now a.cost a.period c.share_below.result c.share_below.ensures (omega arith) a.self.now.most (omega arith)
+    let used = c.uses_of-used.ensures in
+    use_full (g.R.PassingRule.passes s) (g.met.R.PassingRule.lowering s) (g.met.R.PassingRule.lawful_only s) a.load.now a.cost a.period c.share-below.result c.share-below.ensures (omega arith) a.self.now.most (omega arith)
 
 pub returns : goal.returns
 returns g c =
     let a = c.args in
     let s = a.self.now.below in
     let u = a.self.now.most in
-    let used = c.uses-of-used.ensures in
-    let share = use_share (g.R.PassingRule.passes s) (g.met.R.PassingRule.lowering s) (g.met.R.PassingRule.lawful_only s) a.load.now a.cost a.period c.share_below.result c.share_below.ensures (omega arith) u (omega arith) in
+    let used = c.uses_of-used.ensures in
+    let share = use_share (g.R.PassingRule.passes s) (g.met.R.PassingRule.lowering s) (g.met.R.PassingRule.lawful_only s) a.load.now a.cost a.period c.share-below.result c.share-below.ensures (omega arith) u (omega arith) in
     search rules

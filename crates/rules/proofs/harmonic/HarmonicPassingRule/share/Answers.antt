@@ -4,18 +4,18 @@ use Rattle.rules.proofs.Small.{front_modest, joined_kept}
 use Rattle.rules.proofs.HarmonicShare.{none_unlawful, none_unchained, harmonic_share}
 use Rattle.rules.proofs.harmonic.HarmonicPassingRule.share.Goals as goal
 
-pub returns-then-not-has-room : goal.returns-then-not-has-room
-returns-then-not-has-room c = search (rules, none_unlawful)
+pub returns-then-not-has_room : goal.returns-then-not-has_room
+returns-then-not-has_room c = search (rules, none_unlawful)
 
-pub is-chained-requires : goal.is-chained-requires
-is-chained-requires c = front_modest c.args.load.now (newcomer 1 c.args.period) (sym c.if-not-has-room.ensures)
+pub is_chained-requires : goal.is_chained-requires
+is_chained-requires c = front_modest c.args.load.now (newcomer 1 c.args.period) (sym c.if-not-has_room.ensures)
 
-pub returns-then-not-is-chained : goal.returns-then-not-is-chained
-returns-then-not-is-chained c = search (rules, none_unchained)
+pub returns-then-not-is_chained : goal.returns-then-not-is_chained
+returns-then-not-is_chained c = search (rules, none_unchained)
 
-pub work-of-requires : goal.work-of-requires
-work-of-requires c =
-    let room = sym c.if-not-has-room.ensures in
+pub work_of-requires : goal.work_of-requires
+work_of-requires c =
+    let room = sym c.if-not-has_room.ensures in
     record {
       few = front_modest c.args.load.now (newcomer 1 c.args.period) room;
       short = (joined_kept c.args.load.now 1 c.args.period room).most;
@@ -23,5 +23,5 @@ work-of-requires c =
 
 pub returns : goal.returns
 returns c =
-    let share = harmonic_share c.args.load.now c.args.cost c.args.period (sym c.if-not-has-room.ensures) (sym c.if-not-is-chained.ensures) in
+    let share = harmonic_share c.args.load.now c.args.cost c.args.period (sym c.if-not-has_room.ensures) (sym c.if-not-is_chained.ensures) in
     search rules

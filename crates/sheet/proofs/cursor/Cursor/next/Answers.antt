@@ -10,6 +10,6 @@ returns c =
     record {
       token = search rules;
       place = refl;
-      rest = ap (λ k. drop (place + k) text) (c.first-token-length.ensures.span ∙ ap span c.split-at.ensures.back) ∙ sym (drop-drop (span (drop place text)) place text);
+      rest = ap (λ k. drop (place + k) text) (c.first_token-length.ensures.span ∙ ap span c.split_at.ensures.back) ∙ sym (drop-drop (span (drop place text)) place text);
       text = refl;
     }
