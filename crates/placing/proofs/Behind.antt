@@ -1,5 +1,5 @@
 -- One stage more behind a load whose periods are a chain.
-use Rattle.std.proofs.Common.{◌≡◌, ℕ, ◌+◌, ◌-◌, ◌%◌, ◌<◌, ◌≤◌, true, List, [], ◌∷◌, ◌++◌, length, sym, refl, ◌∙◌, subst, arith}
+use Rattle.std.proofs.Common.{◌≡◌, ℕ, ◌-◌, ◌%◌, ◌<◌, ◌≤◌, true, List, [], ◌∷◌, ◌++◌, length, sym, refl, ◌∙◌, subst, arith}
 use Prim.Native.Nat.{◌∣◌}
 use native.Mathlib.Nat.{mod-eq-zero_of_dvd, le_of_dvd}
 use Rattle.std.proofs.lemmas.List.{length_push, get_or_append_left, get_or_push}

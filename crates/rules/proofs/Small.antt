@@ -1,5 +1,5 @@
 -- The members of a lawful load are modest.
-use Rattle.std.proofs.Common.{◌≡◌, ℕ, zero, suc, ◌+◌, ◌<◌, ◌≤◌, true, List, [], ◌∷◌, ◌++◌, length, take, sym, refl, subst, arith}
+use Rattle.std.proofs.Common.{◌≡◌, ℕ, zero, suc, ◌<◌, ◌≤◌, true, List, [], ◌∷◌, ◌++◌, length, take, sym, refl, subst, arith}
 use Rattle.std.proofs.lemmas.List.{length_push, length-take, get_or_append_left, get_or-take, get_or_push}
 use Rattle.std.proofs.lemmas.Bool.{leb-true, eqb-true}
 use Rattle.rules.specs.declared.load.Member.{Member}

@@ -311,7 +311,7 @@ fn written_bytes(rt: HostRuntime) {
     let mut page = [9; 43];
     let table = one(*b"a\0\0\0\0\0\0\0\0\0\0\0", 1, 2);
     assert_eq!(rt; write_sheet(1, &table, &mut page), Ok(40));
-    assert!(rt; &page[0..40] == b"(cores 1)\n(stage a (cost 1) (period 2))\n");
+    assert!(rt; &page[0..40] == b"(cores 1)\n(stage a (cost 1) (period 2))\n".as_slice());
     assert_eq!(rt; page[40], 9);
 }
 

@@ -13,7 +13,7 @@ loop-tick-preserved c =
     let run = c.loop-tick.run in
     let text = text_of c.loop-tick.text in
     let cores : c.cores-cores.result ≡ run.plan.cores = cc in
-    let put = c.put-tick.ensures ∙ ap₂ (λ n answer. cut (text ++ tick_text tick n answer)) cores c.tick-answer.ensures.answers in
+    let put = c.put_tick.ensures ∙ ap₂ (λ n answer. cut (text ++ tick_text tick n answer)) cores c.tick-answer.ensures.answers in
     let more = lines_more tick (layout_of run.plan) run.states text (omega arith) put in
     (cc, cc)
 

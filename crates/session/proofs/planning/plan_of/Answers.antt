@@ -4,25 +4,25 @@ use Rattle.session.proofs.Plans.{plan_read, laid_refused, laid_placed}
 use Rattle.session.proofs.planning.plan_of.Goals as goal
 
 -- a table holds the stages of any sheet
-pub slice-bounds-place-end : goal.slice-bounds-place-end
-slice-bounds-place-end c =
-    let counts = c.in-ok-counts.counts in
-    let sheet = (c.in-ok-counts.ensures.exactly (omega arith) counts.cores counts.stages).0 refl in
+pub slice_bounds-place-end : goal.slice_bounds-place-end
+slice_bounds-place-end c =
+    let counts = c.in_ok-counts.counts in
+    let sheet = (c.in_ok-counts.ensures.exactly (omega arith) counts.cores counts.stages).0 refl in
     let few : counts.stages ≤ 64 = omega (arith, sheet.lawful.most, sheet.count) in
     search rules
 
-pub returns-in-err-place : goal.returns-in-err-place
-returns-in-err-place c =
-    let counts = c.in-ok-counts.counts in
-    let sheet = (c.in-ok-counts.ensures.exactly (omega arith) counts.cores counts.stages).0 refl in
+pub returns-in_err-place : goal.returns-in_err-place
+returns-in_err-place c =
+    let counts = c.in_ok-counts.counts in
+    let sheet = (c.in_ok-counts.ensures.exactly (omega arith) counts.cores counts.stages).0 refl in
     let plan = plan_read c.args.text.now c.read.new.table counts.cores counts.stages sheet in
-    let why = laid_refused counts.cores _ c.in-err-place.field-0.0 c.in-err-place.ensures.answer in
-    let p = err_from_is_err_and c.from-residual-in-err-place.result c.from-residual-in-err-place.ensures.1 in
+    let why = laid_refused counts.cores _ c.in_err-place.field-0.0 c.in_err-place.ensures.answer in
+    let p = err_from_is_err_and c.from_residual-in_err-place.result c.from_residual-in_err-place.ensures.1 in
     rw (p.1, p.2) (why ∙ sym plan)
 
 pub returns : goal.returns
 returns c =
-    let counts = c.in-ok-counts.counts in
-    let sheet = (c.in-ok-counts.ensures.exactly (omega arith) counts.cores counts.stages).0 refl in
+    let counts = c.in_ok-counts.counts in
+    let sheet = (c.in_ok-counts.ensures.exactly (omega arith) counts.cores counts.stages).0 refl in
     let plan = plan_read c.args.text.now c.read.new.table counts.cores counts.stages sheet in
-    laid_placed counts.cores _ _ _ c.in-ok-place.ensures.answer c.in-ok-place.ensures.plan ∙ sym plan
+    laid_placed counts.cores _ _ _ c.in_ok-place.ensures.answer c.in_ok-place.ensures.plan ∙ sym plan

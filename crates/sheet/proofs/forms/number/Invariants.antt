@@ -1,4 +1,4 @@
-use Rattle.std.proofs.Common.{◌≡◌, ◌-◌, ◌≤◌, take}
+use Rattle.std.proofs.Common.{◌≡◌, ◌≤◌, take}
 use Rattle.sheet.specs.Forms.{value}
 use Rattle.sheet.proofs.Values.{cap}
 use Rattle.sheet.proofs.forms.number.Given as goal
