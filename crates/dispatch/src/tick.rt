@@ -92,9 +92,9 @@ pub(crate) fn grown(p: &Placement, s: &State) -> State
 
 // What each core takes, core 1 first.
 pub(crate) fn answer(ps: &[Placement], ss: &[State], cores: usize) -> [u8; MOST_CORES]
-    requires ps_in_bounds { length ps.now ≤ length ss.now }
-    requires ps_len_bound { length ps.now ≤ review_box.stages }
-    requires cores_le_cores { cores ≤ review_box.cores }
+    requires beside { length ps.now ≤ length ss.now }
+    requires few { length ps.now ≤ review_box.stages }
+    requires narrow { cores ≤ review_box.cores }
     ensures { result ≡ answer_of cores ps.now ss.now }
 {
     let mut all = [0; MOST_CORES];
@@ -141,8 +141,8 @@ pub(crate) fn step(all: &[u8; MOST_CORES], k: usize, p: &Placement, s: &State) -
 
 // Every stage after that tick.
 pub(crate) fn step_all(all: &[u8; MOST_CORES], ps: &[Placement], ss: &mut [State])
-    requires ps_in_bounds { length ps.now ≤ length ss.old }
-    requires by_index { (i : ℕ) → i < length ps.now → Small (slice_index_or ss.old i no_state) }
+    requires beside { length ps.now ≤ length ss.old }
+    requires small { (i : ℕ) → i < length ps.now → Small (slice_index_or ss.old i no_state) }
     ensures { ss.new ≡ stepped all.now 1 ps.now ss.old }
 {
     let count = ps.len();

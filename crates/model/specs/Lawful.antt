@@ -1,6 +1,6 @@
 -- What a lawful core count and table are, said without the check.
 use Rattle.std.specs.Prelude.{◌≡◌, ℕ, ◌+◌, ◌-◌, ◌<◌, ◌≤◌, true, List, [], ◌++◌, length, replicate, ◌≢◌, slice_index_or}
-use Rattle.std.specs.List.{AllByRecursion as All}
+use Rattle.std.specs.List.{AllByRecursion}
 use Rattle.model.specs.declared.limits.Limits.{Limits}
 use Rattle.model.specs.declared.stage.Stage.{Stage}
 use Rattle.model.specs.Limits.{name_bytes}
@@ -9,7 +9,7 @@ use Rattle.model.specs.Names.{letter}
 -- letters from a to z, at least one, and zeros behind them up to twelve bytes
 pub record Name (n : List ℕ) : Type 0 where
   pub word : List ℕ
-  pub letters : All (λ b. letter b ≡ true) word
+  pub letters : AllByRecursion (λ b. letter b ≡ true) word
   pub some : 1 ≤ length word
   pub most : length word ≤ name_bytes
   pub padded : n ≡ word ++ replicate (name_bytes - length word) 0

@@ -8,7 +8,7 @@ use Rattle.model.specs.declared.stage.Stage.{Stage}
 use Rattle.model.specs.Limits.{review_box}
 use Rattle.model.specs.Lawful.{no_stage, stage, LawfulTable}
 use Rattle.model.specs.Tables.{last_period}
-use Rattle.model.proofs.Tables.{last_is as stage-last}
+use Rattle.model.proofs.Tables.{last_is as stage_last}
 use Rattle.rules.specs.Rules.{work, work_in}
 use Rattle.rules.proofs.HarmonicShare.{chained_from, chained_start}
 use Rattle.placing.specs.Fits.{whole_load, in_chain, denominator}
@@ -52,6 +52,6 @@ last_is (s ∷ t ∷ ss) = last_is (t ∷ ss)
 pub last_short : (ss : List Stage) → LawfulTable review_box ss → last_period ss ≤ 60000
 last_short ss t =
     ⊎_elim
-    (λ lt. omega (arith, stage-last ss no_stage lt, (t.each (length ss - 1) (omega arith)).period_most))
+    (λ lt. omega (arith, stage_last ss no_stage lt, (t.each (length ss - 1) (omega arith)).period_most))
     (λ le. omega (arith, ap last_period (nil_from_length ss (omega arith))))
     (cases_lt 0 (length ss))

@@ -1,6 +1,6 @@
 -- What a line that is read looks like.
 use Rattle.std.proofs.Common.{◌≡◌, ℕ, zero, suc, ◌+◌, ◌-◌, ◌*◌, ◌≤◌, Bool, true, false, cond, eqb, leb, List, ◌∷◌, ◌++◌, length, get_or, take, Some, None, codes, decimal, fold, Option, sym, refl, ap, ◌∙◌, subst, ap₂, append_assoc, arith, rules}
-use Rattle.std.specs.List.{AllByRecursion as All}
+use Rattle.std.specs.List.{AllByRecursion}
 use Rattle.std.specs.Str.{bytes_eq}
 use Rattle.std.proofs.lemmas.Bool.{cond_both, eqb-true, leb-true}
 use Rattle.std.proofs.lemmas.Slice.Eq.{bytes_eq-Decides}
@@ -105,7 +105,7 @@ opening_back h bs o e =
 
 -- numbers
 abbrev Digital : List ℕ → Type 0
-Digital ds = All (λ b. digit b ≡ true) ds
+Digital ds = AllByRecursion (λ b. digit b ≡ true) ds
 
 pub own : IsNumeralModel Digital value
 own =
@@ -159,7 +159,7 @@ pub letters_is : (n : List ℕ) (h : Name n) → letters_of n ≡ h.word
 letters_is n h =
     ap (λ k. take k n) (word_of n h) ∙ ap (take (length h.word)) h.padded ∙ take_at h.word _ (length h.word) refl
 
-name_text : (w n : List ℕ) → All (λ b. letter b ≡ true) w → 1 ≤ length w → name_of w ≡ Some n → (letters_of n ≡ w) × Name n
+name_text : (w n : List ℕ) → AllByRecursion (λ b. letter b ≡ true) w → 1 ≤ length w → name_of w ≡ Some n → (letters_of n ≡ w) × Name n
 name_text w n a some e =
     let p = cond_back (leb (length w) name_bytes) _ n e in
     let named : Name n = record { word = w; letters = a; some = some; most = leb-true _ _ p.0; padded = sym (some_is p.1) } in

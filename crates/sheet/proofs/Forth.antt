@@ -1,6 +1,6 @@
 -- A sheet that is printed is read.
 use Rattle.std.proofs.Common.{◌≡◌, ℕ, zero, suc, ◌<◌, ◌≤◌, true, false, not, ◌||◌, eqb, leb, List, [], ◌∷◌, ◌++◌, length, get_or, Some, None, Ok, decimal, Option, sym, refl, ap, ◌∙◌, subst, ⊎_elim, append_assoc, append-nil, arith}
-use Rattle.std.specs.List.{flat_map, AllByRecursion as All}
+use Rattle.std.specs.List.{flat_map, AllByRecursion}
 use Rattle.std.proofs.lemmas.Bool.{cond-true, le-leb, and_from, or_left, or_right, cases_lt, ne_eqb}
 use Rattle.std.proofs.lemmas.Fmt.{digits_value-decimal, digits_decimal, decimal_nonempty, decimal_digit, length-decimal-le, first_decimal}
 use Rattle.std.proofs.lemmas.Bool.Decides.{nat_tests}
@@ -20,12 +20,12 @@ use Rattle.sheet.proofs.Lexing.{lex_word, lex_number}
 use Rattle.sheet.proofs.Lines.{lines_done, lines_more}
 use Rattle.sheet.proofs.Back.{own, letters_is, stage_flat, stage_flat_is}
 
-word_forth : {X : Type 0} (w : List ℕ) (c : ℕ) (rest : List ℕ) (k : List ℕ → List ℕ → Option X) → All (λ b. letter b ≡ true) w → 1 ≤ length w → letter c ≡ false → on_word (w ++ c ∷ rest) k ≡ k w (c ∷ rest)
+word_forth : {X : Type 0} (w : List ℕ) (c : ℕ) (rest : List ℕ) (k : List ℕ → List ℕ → Option X) → AllByRecursion (λ b. letter b ≡ true) w → 1 ≤ length w → letter c ≡ false → on_word (w ++ c ∷ rest) k ≡ k w (c ∷ rest)
 word_forth w c rest k a some stop =
     let p = lex_word w c rest a some stop in
     ap (λ l. elim l [ sign' d ↦ None | word' v ↦ k v (after (w ++ c ∷ rest)) | number' v ↦ None | stray' ↦ None ]) p.0 ∙ ap (λ r. k w r) p.1
 
-number_forth : {X : Type 0} (w : List ℕ) (c : ℕ) (rest : List ℕ) (k : List ℕ → List ℕ → Option X) → All (λ b. digit b ≡ true) w → 1 ≤ length w → digit c ≡ false → on_number (w ++ c ∷ rest) k ≡ k w (c ∷ rest)
+number_forth : {X : Type 0} (w : List ℕ) (c : ℕ) (rest : List ℕ) (k : List ℕ → List ℕ → Option X) → AllByRecursion (λ b. digit b ≡ true) w → 1 ≤ length w → digit c ≡ false → on_number (w ++ c ∷ rest) k ≡ k w (c ∷ rest)
 number_forth w c rest k a some stop =
     let p = lex_number w c rest a some stop in
     ap (λ l. elim l [ sign' d ↦ None | word' v ↦ None | number' v ↦ k v (after (w ++ c ∷ rest)) | stray' ↦ None ]) p.0 ∙ ap (λ r. k w r) p.1

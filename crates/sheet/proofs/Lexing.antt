@@ -1,6 +1,6 @@
 -- The first token of a list of bytes, from both sides.
 use Rattle.std.proofs.Common.{◌≡◌, ℕ, ◌≤◌, Bool, true, false, cond, List, [], ◌∷◌, ◌++◌, length, take, drop, sym, refl, ap, ◌∙◌, subst, arith, take-append-drop}
-use Rattle.std.specs.List.{prefix_len, AllByRecursion as All}
+use Rattle.std.specs.List.{prefix_len, AllByRecursion}
 use Rattle.std.proofs.lemmas.Bool.{cond-false}
 use Rattle.std.proofs.lemmas.List.{take_at, drop_at}
 use Rattle.std.proofs.lemmas.Bool.Decides.{nat_tests}
@@ -17,7 +17,7 @@ abbrev span_by : Bool → Bool → ℕ → List ℕ → ℕ
 span_by a d b bs = cond a (letters (b ∷ bs)) (cond d (digits_front (b ∷ bs)) 1)
 
 -- a run of bytes that pass the test, up to one that does not
-module _ (p : ℕ → Bool) (w : List ℕ) (c : ℕ) (rest : List ℕ) (a : All (λ b. p b ≡ true) w) (stop : p c ≡ false) where
+module _ (p : ℕ → Bool) (w : List ℕ) (c : ℕ) (rest : List ℕ) (a : AllByRecursion (λ b. p b ≡ true) w) (stop : p c ≡ false) where
   run_long : prefix_len p (w ++ c ∷ rest) ≡ length w
   run_long = leading_stop p w (c ∷ rest) a (cond-false _ _ _ stop)
 
@@ -28,7 +28,7 @@ module _ (p : ℕ → Bool) (w : List ℕ) (c : ℕ) (rest : List ℕ) (a : All 
   run_back = ap (λ i. drop i (w ++ c ∷ rest)) run_long ∙ drop_at w (c ∷ rest) (length w) refl
 
 -- from a word or a number to its token
-pub lex_word : (w : List ℕ) (c : ℕ) (rest : List ℕ) → All (λ b. letter b ≡ true) w → 1 ≤ length w → letter c ≡ false → (lexeme (w ++ c ∷ rest) ≡ word' w) × (after (w ++ c ∷ rest) ≡ c ∷ rest)
+pub lex_word : (w : List ℕ) (c : ℕ) (rest : List ℕ) → AllByRecursion (λ b. letter b ≡ true) w → 1 ≤ length w → letter c ≡ false → (lexeme (w ++ c ∷ rest) ≡ word' w) × (after (w ++ c ∷ rest) ≡ c ∷ rest)
 lex_word [] c rest a some stop = absurd (omega arith)
 lex_word (x ∷ xs) c rest a some stop =
     let tail = xs ++ c ∷ rest in (
@@ -39,7 +39,7 @@ lex_word (x ∷ xs) c rest a some stop =
 digit_only : (b : ℕ) → digit b ≡ true → letter b ≡ false
 digit_only b h = grind (arith, nat_tests)
 
-pub lex_number : (w : List ℕ) (c : ℕ) (rest : List ℕ) → All (λ b. digit b ≡ true) w → 1 ≤ length w → digit c ≡ false → (lexeme (w ++ c ∷ rest) ≡ number' w) × (after (w ++ c ∷ rest) ≡ c ∷ rest)
+pub lex_number : (w : List ℕ) (c : ℕ) (rest : List ℕ) → AllByRecursion (λ b. digit b ≡ true) w → 1 ≤ length w → digit c ≡ false → (lexeme (w ++ c ∷ rest) ≡ number' w) × (after (w ++ c ∷ rest) ≡ c ∷ rest)
 lex_number [] c rest a some stop = absurd (omega arith)
 lex_number (x ∷ xs) c rest a some stop =
     let tail = xs ++ c ∷ rest in
@@ -51,7 +51,7 @@ lex_number (x ∷ xs) c rest a some stop =
 -- what a token says of the bytes
 pub record Run (p : ℕ → Bool) (w rest bs : List ℕ) : Type 0 where
   pub split : bs ≡ w ++ rest
-  pub all : All (λ b. p b ≡ true) w
+  pub all : AllByRecursion (λ b. p b ≡ true) w
   pub some : 1 ≤ length w
 
 abbrev pub Spelled : Lexeme → List ℕ → List ℕ → Type 0

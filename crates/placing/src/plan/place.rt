@@ -71,9 +71,9 @@ fn place_stage<R: PassingRule>(
     at: &mut CoreLoad,
     stage: &Stage,
 ) -> Result<Placement, Cause>
-    requires len_lt_stages { at.old.len < review_box.stages }
-    requires core_le_cores { at.old.core ≤ cores }
-    requires cores_le_cores { cores ≤ review_box.cores }
+    requires room { at.old.len < review_box.stages }
+    requires on_a_core { at.old.core ≤ cores }
+    requires narrow { cores ≤ review_box.cores }
     ensures leaves { Leaves (place_stage (R.PassingRule.passes rule.now) (cores - at.old.core) at.old.core (members_of at.old) stage.now) result at.new }
     ensures longer { at.new.len ≤ at.old.len + 1 }
     ensures within { at.new.core ≤ cores }
@@ -121,10 +121,10 @@ fn place_stages<R: PassingRule>(
     table: &[Stage],
     into: &mut [Placement],
 ) -> Result<(), Fault>
-    requires le_cores { 1 ≤ cores }
-    requires cores_le_cores { cores ≤ review_box.cores }
-    requires table_len_bound { length table.now ≤ review_box.stages }
-    requires table_in_bounds { length table.now ≤ length into.old }
+    requires some { 1 ≤ cores }
+    requires narrow { cores ≤ review_box.cores }
+    requires few { length table.now ≤ review_box.stages }
+    requires fits { length table.now ≤ length into.old }
     ensures { MatchResult result (λ _. place_stages (R.PassingRule.passes rule.now) cores 1 1 [] table.now ≡ Ok (take (length table.now) into.new)) (λ f. place_stages (R.PassingRule.passes rule.now) cores 1 1 [] table.now ≡ Err f) }
 {
     let mut at = CoreLoad {

@@ -13,7 +13,7 @@ answer-all-requires c =
     let plan = c.args.self.now.plan in
     let few : length c.placements.result.now ≤ 64 = subst (λ (q : List Placement). length q ≤ 64) (sym c.placements.ensures) (plan_few plan) in
     let narrow = plan.narrow in
-    record { ps_in_bounds = omega arith; ps_len_bound = omega arith; cores_le_cores = omega (arith, c.cores.ensures) }
+    record { beside = omega arith; few = omega arith; narrow = omega (arith, c.cores.ensures) }
 
 pub step_all-requires : goal.step_all-requires
 step_all-requires c =
@@ -21,7 +21,7 @@ step_all-requires c =
     let ps = placements_of run.plan in
     let small : length c.placements-2.result.now ≤ 64 = subst (λ (q : List Placement). length q ≤ 64) (sym c.placements-2.ensures) (plan_few run.plan) in
     let few : length c.placements-2.result.now ≤ length run.states = omega arith in
-    record { ps_in_bounds = few; by_index = subst (λ (q : List Placement). (i : ℕ) → i < length q → Small (state_of run.states i)) (sym c.placements-2.ensures) (within_small run.plan.cores ps run.states (plan_sound run.plan) run.within) }
+    record { beside = few; small = subst (λ (q : List Placement). (i : ℕ) → i < length q → Small (state_of run.states i)) (sym c.placements-2.ensures) (within_small run.plan.cores ps run.states (plan_sound run.plan) run.within) }
 
 pub invariant_of-self : goal.invariant_of-self
 invariant_of-self c =
