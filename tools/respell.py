@@ -4,9 +4,10 @@
 usage: python3 tools/respell.py [FOLDER]     once, after the kit's port.py, at the top of the repository
 
 A name is one that a line of crates/*/specs/**/*.antt or crates/*/proofs/**/*.antt declares, or that a `let` binds.
-Names that Rattle makes (a goal, a step, a loop) are not declared here and stay. Nothing in a Rust comment, a
-string or a page of docs/ is touched: only .antt files, the clauses and ghost lines of .rt files, and .edit files.
-It stops where two names would fall together, or where a new name would take that of another one in a file.
+Names that Rattle makes (a goal, a step, a loop) are not declared here and stay, and so do names that a file imports
+from the kit. What is touched: .antt files, the clauses and ghost lines of .rt files, and .edit files.
+It stops where two names would fall together, and tells (look:) where a file has a name already that one of its
+names would get.
 """
 
 import glob
