@@ -1,6 +1,10 @@
 -- A lawful table, stage by stage.
-use Rattle.std.proofs.Common.{◌≡◌, ℕ, zero, suc, ◌+◌, ◌-◌, ◌<◌, ◌≤◌, Bool, true, false, cond, leb, List, [], ◌∷◌, ◌++◌, length, get_or, Some, None, sym, refl, ap, ◌∙◌, subst, ⊎_elim, append_assoc, append-nil, arith, length-append}
+use Rattle.std.proofs.Common.{◌≡◌, ℕ, zero, suc, ◌+◌, ◌-◌, ◌<◌, ◌≤◌, Bool, true, false, cond, leb, List, [], ◌∷◌, ◌++◌, length, get_or, Some, None, Option, sym, refl, ap, ◌∙◌, subst, ⊎_elim, append_assoc, append-nil, arith, length-append}
+use denote.Ref.{Bor}
+use Rattle.std.specs.List.{slice_get}
+use Rattle.std.specs.Option.{MatchOption, option_copied}
 use Rattle.std.specs.Str.{bytes_eq}
+use Rattle.std.proofs.lemmas.Option.{slice_get-get_or, get_or_from_slice_get}
 use Rattle.std.proofs.lemmas.Slice.Eq.{bytes_eq-Decides}
 use Rattle.std.proofs.lemmas.List.{get_or_append_left, get_or_push, get_or_at, length_push}
 use Rattle.std.proofs.lemmas.Bool.{cases_lt, cases_Bool, cond-true, cond-false, or_parts, or_from, and_from, leb-true, le-leb, both_ways}
@@ -20,6 +24,18 @@ last_is (x ∷ y ∷ xs) d h =
     let e : suc (suc (length xs)) - 1 ≡ suc (length xs) = omega arith in
     let f : length xs ≡ suc (length xs) - 1 = omega arith in
     ap (λ k. (get_or (x ∷ y ∷ xs) k d).period) e ∙ ap (λ k. (get_or (y ∷ xs) k d).period) f ∙ last_is (y ∷ xs) d (omega arith)
+
+-- what `last` lends, by its period
+pub last_told : (xs : List Stage) (o : Option (Bor Stage)) (r : ℕ) (Q : Bor Stage → Type 0) → option_copied o ≡ slice_get xs (length xs - 1) → MatchOption o (r ≡ 0) Q → ((x : Bor Stage) → Q x → r ≡ x.now.period) → r ≡ last_period xs
+last_told [] None r Q e h q = h
+last_told [] (Some x) r Q e h q = let z : ◌≡◌ {A = ℕ} 0 1 = cc in absurd (omega arith)
+last_told (x ∷ xs) None r Q e h q =
+    let there = slice_get-get_or (x ∷ xs) (length (x ∷ xs) - 1) no_stage (omega arith) in
+    let z : ◌≡◌ {A = ℕ} 0 1 = cc in
+    absurd (omega arith)
+last_told (x ∷ xs) (Some y) r Q e h q =
+    let at = get_or_from_slice_get (x ∷ xs) (length (x ∷ xs) - 1) y.now no_stage (sym e) in
+    q y h ∙ ap (λ (s : Stage). s.period) (sym at) ∙ last_is (x ∷ xs) no_stage (omega arith)
 
 -- each of these stages may follow those before it
 abbrev pub Follows : Limits → List Stage → List Stage → Type 0

@@ -1,6 +1,6 @@
 -- What a name is: twelve bytes, letters from a to z in front, at least one, and zeros behind them.
-use Rattle.std.specs.Prelude.{ℕ, Bool, true, ◌&&◌, List, [], ◌∷◌, length, take, drop, ◌==◌, nat_le}
-use Rattle.std.specs.List.{prefix_len}
+use Rattle.std.specs.Prelude.{ℕ, Bool, ◌&&◌, List, length, take, drop, ◌==◌, nat_le}
+use Rattle.std.specs.List.{list_all, prefix_len}
 use Rattle.model.specs.Limits.{name_bytes}
 
 abbrev pub letter : ℕ → Bool
@@ -11,8 +11,7 @@ abbrev pub letters : List ℕ → ℕ
 letters bs = prefix_len letter bs
 
 abbrev pub all_zero : List ℕ → Bool
-all_zero [] = true
-all_zero (b ∷ bs) = b == 0 && all_zero bs
+all_zero bs = list_all (λ b. b == 0) bs
 
 abbrev pub lawful_name : List ℕ → Bool
 lawful_name n = length n == name_bytes && nat_le 1 (letters n) && all_zero (drop (letters n) n)

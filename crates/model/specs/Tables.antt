@@ -1,5 +1,6 @@
 -- The rules of a table of stages, and its check.
-use Rattle.std.specs.Prelude.{ℕ, ◌+◌, Bool, false, cond, not, ◌&&◌, ◌||◌, List, [], ◌∷◌, ◌++◌, length, is_some, Some, None, Ok, Err, Option, Result, nat_le}
+use Rattle.std.specs.Prelude.{ℕ, ◌+◌, Bool, cond, not, ◌&&◌, List, [], ◌∷◌, ◌++◌, length, is_some, Some, None, Ok, Err, Option, Result, nat_le}
+use Rattle.std.specs.List.{list_any}
 use Rattle.std.specs.Str.{bytes_eq}
 use Rattle.model.specs.declared.fault.Fault.{Fault}
 use Rattle.model.specs.declared.fault.Cause.{Cause}
@@ -12,8 +13,7 @@ use Rattle.model.specs.Names.{lawful_name}
 
 -- whether one of the stages has the name
 abbrev pub used : List ℕ → List Stage → Bool
-used n [] = false
-used n (s ∷ ss) = bytes_eq s.name n || used n ss
+used n ss = list_any (λ (s : Stage). bytes_eq s.name n) ss
 
 abbrev pub last_period : List Stage → ℕ
 last_period [] = 0

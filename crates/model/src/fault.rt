@@ -1,6 +1,6 @@
 // What a refused call answers: why, where, and in which layer.
 ghost use Rattle.std.specs.Prelude.{◌≡◌};
-ghost use Rattle.model.specs.Faults.{cause_number, layer_number};
+ghost use Rattle.model.specs.Faults.{cause_number, layer_number, fault};
 
 // Why a call was refused, by the number that a refusal line prints.
 #[derive(Clone, Copy, PartialEq, Eq, Debug)]
@@ -40,17 +40,30 @@ pub struct Fault {
 }
 
 impl Cause {
-    pub fn number(self) -> u8
-        ensures { result ≡ cause_number self }
+    // The fault of this cause at a place, found by a layer.
+    pub fn at(self, place: usize, layer: Layer) -> Fault
+        ensures { result ≡ fault self place layer }
     {
-        self as u8
+        Fault {
+            cause: self,
+            place,
+            layer,
+        }
     }
 }
 
-impl Layer {
-    pub fn number(self) -> u8
-        ensures { result ≡ layer_number self }
-    {
-        self as u8
+impl From<Cause> for u8 {
+    ghost from_gives = { λ cause number. number ≡ cause_number cause };
+
+    fn from(cause: Cause) -> u8 {
+        cause as u8
+    }
+}
+
+impl From<Layer> for u8 {
+    ghost from_gives = { λ layer number. number ≡ layer_number layer };
+
+    fn from(layer: Layer) -> u8 {
+        layer as u8
     }
 }

@@ -9,10 +9,7 @@ use crate::limits::NAME_BYTES;
 pub fn is_letter(byte: u8) -> bool
     ensures { result ≡ letter byte }
 {
-    match byte as char {
-        'a'..='z' => true,
-        _ => false,
-    }
+    matches!(byte as char, 'a'..='z')
 }
 
 // How many bytes in front are letters.
@@ -20,30 +17,20 @@ pub fn letters(bytes: &[u8]) -> usize
     ensures value { result ≡ prefix_len letter bytes.now }
     ensures within { result ≤ length bytes.now }
 {
-    let mut n = 0;
-    while n < bytes.len() && is_letter(bytes[n]) {
-        n += 1;
-    }
-    n
+    bytes.iter().take_while(|byte| is_letter(**byte)).count()
 }
 
 // A name without the zeros behind it.
 pub fn word(name: &[u8; NAME_BYTES]) -> &[u8]
     ensures { result.now ≡ letters_of name.now }
 {
-    let n = letters(name);
-    &name[0..n]
+    &name[..letters(name)]
 }
 
 fn zeros(bytes: &[u8]) -> bool
     ensures { result ≡ all_zero bytes.now }
 {
-    for byte in bytes {
-        if *byte != 0 {
-            return false;
-        }
-    }
-    true
+    bytes.iter().all(|byte| *byte == 0)
 }
 
 // Whether the bytes are letters, at least one, and zeros behind them.

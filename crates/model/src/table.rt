@@ -12,22 +12,14 @@ use crate::stage::Stage;
 fn name_used(name: &[u8; NAME_BYTES], before: &[Stage]) -> bool
     ensures { result ≡ used name.now before.now }
 {
-    for stage in before {
-        if stage.name == *name {
-            return true;
-        }
-    }
-    false
+    before.iter().any(|stage| stage.name == *name)
 }
 
 // The period of the last of these stages, or 0.
 pub fn last_period(before: &[Stage]) -> u32
     ensures { result ≡ last_period before.now }
 {
-    match before.last() {
-        Some(stage) => stage.period,
-        None => 0,
-    }
+    before.last().map_or(0, |stage| stage.period)
 }
 
 // What keeps a stage from standing right behind these, if anything does, its name's bytes apart.
@@ -57,8 +49,8 @@ fn can_follow(limits: &Limits, stage: &Stage, before: &[Stage]) -> bool
 fn first_bad(limits: &Limits, table: &[Stage]) -> Option<usize>
     ensures { result ≡ first_bad limits.now [] table.now }
 {
-    for i in 0..table.len() {
-        if !can_follow(limits, &table[i], &table[0..i]) {
+    for (i, stage) in table.iter().enumerate() {
+        if !can_follow(limits, stage, &table[..i]) {
             return Some(i + 1);
         }
     }
@@ -71,18 +63,10 @@ pub fn check(limits: &Limits, cores: usize, table: &[Stage], layer: Layer) -> Re
     ensures exactly { (result ≡ Ok tt) ↔ Lawful limits.now cores table.now }
 {
     if !limits.allows_cores(cores) || !limits.allows_stages(table.len()) {
-        return Err(Fault {
-            cause: Cause::CountOutside,
-            place: 0,
-            layer,
-        });
+        return Err(Cause::CountOutside.at(0, layer));
     }
     match first_bad(limits, table) {
-        Some(place) => Err(Fault {
-            cause: Cause::BadRecord,
-            place,
-            layer,
-        }),
+        Some(place) => Err(Cause::BadRecord.at(place, layer)),
         None => Ok(()),
     }
 }
