@@ -1,10 +1,8 @@
 -- A text that is cut off where the room ends, piece by piece.
-use Rattle.std.proofs.Common.{◌≡◌, ℕ, zero, suc, ◌+◌, ◌/◌, ◌%◌, ◌^◌, ◌<◌, ◌≤◌, List, [], ◌∷◌, ◌++◌, length, take, decimal, sym, refl, ap, ◌∙◌, ⊎_elim, append_assoc, arith, length-append}
+use Rattle.std.proofs.Common.{◌≡◌, ℕ, zero, suc, ◌+◌, ◌<◌, ◌≤◌, List, [], ◌∷◌, ◌++◌, length, take, sym, refl, ap, ◌∙◌, ⊎_elim, arith, length-append}
 use lib.Seq.{take-append-add}
-use Rattle.std.proofs.lemmas.Fmt.{decimal_digit, decimal_step}
 use Rattle.std.proofs.lemmas.List.{take_all}
 use Rattle.std.proofs.lemmas.Bool.{cases_lt}
-use Rattle.writing.specs.Room.{room, cut}
 
 -- cutting before a piece is added changes nothing
 pub take_again : (n : ℕ) (a b : List ℕ) → take n (take n a ++ b) ≡ take n (a ++ b)
@@ -19,13 +17,3 @@ take_piece n count t b fits within full =
     (λ less. sym (take-append-add t b count) ∙ ap (λ k. take k (t ++ b)) (full less))
     (λ all. ap (λ l. t ++ l) (take_all count b all) ∙ sym (take_all n (t ++ b) (omega (arith, length-append t b))))
     (cases_lt count (length b))
-
--- a number of one digit, and one more digit behind a number
-pub number_one : (n : ℕ) → n < 10 → (48 + n % 10) ∷ [] ≡ decimal n
-number_one n small = let e : n % 10 ≡ n = omega arith in ap (λ d. (48 + d) ∷ []) e ∙ sym (decimal_digit n small)
-
-pub number_more : (t : List ℕ) (n : ℕ) → 10 ≤ n → n < 2 ^ 64 → cut (cut (t ++ decimal (n / 10)) ++ (48 + n % 10) ∷ []) ≡ cut (t ++ decimal n)
-unfolding cut
-number_more t n large fits =
-    let last = (48 + n % 10) ∷ [] in
-    take_again room (t ++ decimal (n / 10)) last ∙ ap (take room) (append_assoc t (decimal (n / 10)) last ∙ ap (λ l. t ++ l) (sym (decimal_step n large fits)))

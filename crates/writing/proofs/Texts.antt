@@ -1,5 +1,5 @@
 -- Composing a text from pieces.
-use Rattle.std.proofs.Common.{◌≡◌, ℕ, ◌≤◌, List, [], ◌++◌, length, sym, ap, ◌∙◌, append_assoc, arith, length-take}
+use Rattle.std.proofs.Common.{◌≡◌, ℕ, ◌≤◌, List, [], ◌++◌, length, sym, ap, ◌∙◌, append_assoc}
 use Rattle.std.proofs.lemmas.List.{take_all}
 use Rattle.writing.specs.declared.text.Text.{Text}
 use Rattle.writing.specs.Room.{room, cut}
@@ -18,7 +18,7 @@ cut_whole a h = take_all room a h
 
 -- a text is never cut by itself
 pub whole : (t : Text) → text_of t ≡ cut (text_of t)
-whole t = let within = t.within in sym (cut_whole (text_of t) (omega (arith, length-take t.len t.bytes)))
+whole t = sym (cut_whole (text_of t) t.within)
 
 -- one more piece behind what was put on a text
 pub put_more : (start before piece : List ℕ) {x y : List ℕ} → x ≡ cut (start ++ before) → y ≡ cut (x ++ piece) → y ≡ cut (start ++ (before ++ piece))

@@ -13,15 +13,11 @@ impl Text {
         ensures answer { result ≡ page_answer (Ok (text_of self.now)) page.old }
         ensures page { page.new ≡ page_after (Ok (text_of self.now)) page.old }
     {
-        let n = self.len;
+        let n = self.bytes.len();
         if page.len() < n {
-            return Err(Fault {
-                cause: Cause::ShortPage,
-                place: 0,
-                layer: Layer::Writing,
-            });
+            return Err(Cause::ShortPage.at(0, Layer::Writing));
         }
-        page[0..n].copy_from_slice(&self.bytes[0..n]);
+        page[..n].copy_from_slice(&self.bytes);
         Ok(n)
     }
 }

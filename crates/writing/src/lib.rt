@@ -4,3 +4,4 @@
 pub mod deliver;
 pub mod text;
 pub mod write;
+pub mod written;
