@@ -23,6 +23,7 @@ pub fn last_period(before: &[Stage]) -> u32
 }
 
 // What keeps a stage from standing right behind these, if anything does, its name's bytes apart.
+#[tactic(auto, using(std::proofs::lemmas::Bool::Decides::nat_tests), unfolding(crate::specs::Tables::breach_of))]
 pub fn breach(limits: &Limits, stage: &Stage, before: &[Stage]) -> Option<Cause>
     ensures { result ≡ breach_of limits.now stage.now before.now }
 {
@@ -39,6 +40,7 @@ pub fn breach(limits: &Limits, stage: &Stage, before: &[Stage]) -> Option<Cause>
 }
 
 // Whether a record can stand right behind these.
+#[tactic(auto, unfolding(crate::specs::Tables::follows))]
 fn can_follow(limits: &Limits, stage: &Stage, before: &[Stage]) -> bool
     ensures { result ≡ follows limits.now stage.now before.now }
 {

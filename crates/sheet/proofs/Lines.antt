@@ -6,7 +6,7 @@ use Rattle.model.specs.declared.fault.Cause.{Cause}
 use Rattle.model.specs.declared.stage.Stage.{Stage}
 use Rattle.sheet.specs.Faults.{reading}
 use Rattle.sheet.specs.Forms.{Passes}
-use Rattle.sheet.specs.Sheets.{line_of, stages_from, Fills}
+use Rattle.sheet.specs.Sheets.{line_of, stages_from}
 
 pub passes_ok : (o : Result (Stage × List ℕ) Fault) (x : Stage) (rest : List ℕ) → Passes o (Ok x) rest → o ≡ Ok (x, rest)
 passes_ok (Ok p) x rest h = let q : p.0 ≡ x = cc h.0 in λ i. Ok (q i, sym h.1 i)
@@ -59,9 +59,3 @@ module _ (most count : ℕ) (before : List Stage) (bs : List ℕ) (o : Result (L
       ∙ sym (lines_more (most - (count + 1)) (count + 2) before bs s rest some h)
       ∙ ap (λ r. stages_from r (count + 2) before bs) e
       ∙ so_far
-
-pub fills_ok : (o : Result (List Stage) Fault) (ss table : List Stage) (n : ℕ) → o ≡ Ok ss → n ≡ length ss → take n table ≡ ss → Fills o (Ok n) table
-fills_ok o ss table n e l t = rw e (ap Ok l, subst (λ k. take k table ≡ ss) l t)
-
-pub fills_err : (o : Result (List Stage) Fault) (f : Fault) (table : List Stage) → o ≡ Err f → Fills o (Err f) table
-fills_err o f table e = rw e refl

@@ -1,11 +1,13 @@
 -- Reading a sheet.
-use Rattle.std.specs.Prelude.{◌≡◌, ℕ, zero, suc, cond, List, [], ◌∷◌, ◌++◌, length, take, drop, Some, None, Ok, Err, Option, Result, nat_le}
+use Rattle.std.specs.Prelude.{ℕ, zero, suc, cond, List, [], ◌∷◌, ◌++◌, length, drop, Some, None, Ok, Err, Option, Result, nat_le}
 use Rattle.model.specs.declared.fault.Cause.{Cause}
 use Rattle.model.specs.declared.fault.Fault.{Fault}
 use Rattle.model.specs.declared.stage.Stage.{Stage}
 use Rattle.model.specs.Limits.{review_box, cores_allowed}
 use Rattle.model.specs.Tables.{breach_of}
+use Rattle.arrayvec.specs.ArrayVec.{ArrayVec}
 use Rattle.sheet.specs.declared.read.Counts.{Counts}
+use Rattle.sheet.specs.declared.read.Contents.{Contents}
 use Rattle.sheet.specs.Faults.{reading}
 use Rattle.sheet.specs.Forms.{cores_of, stage_of, formed}
 
@@ -74,12 +76,12 @@ answer_of records text = cond (nat_le review_box.stages records) (counted (read_
 abbrev pub table_of : List Stage → List ℕ → List Stage
 table_of table text = cond (nat_le review_box.stages (length table)) (stored (read_of text) table) table
 
--- the answer of reading the stage lines, and a table that has the stages in front unless it is a refusal
-abbrev pub Fills : Result (List Stage) Fault → Result ℕ Fault → List Stage → Type 0
-Fills (Ok ss) r table = (r ≡ Ok (length ss)) × (take (length ss) table ≡ ss)
-Fills (Err f) r table = r ≡ Err f
+-- gathered stages as a list, or why they are not
+abbrev pub listed : Result (ArrayVec Stage) Fault → Result (List Stage) Fault
+listed (Ok stages) = Ok stages.items
+listed (Err f) = Err f
 
--- the same of the whole sheet
-abbrev pub Gathers : Result (ℕ × List Stage) Fault → Result Counts Fault → List Stage → Type 0
-Gathers (Ok p) r table = (r ≡ counted (Ok p)) × (take (length p.1) table ≡ p.1)
-Gathers (Err f) r table = r ≡ Err f
+-- the contents of a sheet as its core count and the list of its stages, or why there are none
+abbrev pub told : Result Contents Fault → Result (ℕ × List Stage) Fault
+told (Ok c) = Ok (c.cores, c.stages.items)
+told (Err f) = Err f

@@ -73,18 +73,16 @@ fn name(word: &[u8]) -> Option<[u8; NAME_BYTES]>
     Some(bytes)
 }
 
-// The fault of a line that has not its form.
+// The fault of a line that has not its form. The number of the line goes beside the cursor and not in it:
+// it stands still while a line is read, which each of the contracts below would have to say.
 fn no_form(line: usize) -> Fault
     ensures { result ≡ reading Cause.NoForm line }
 {
-    Fault {
-        cause: Cause::NoForm,
-        place: line,
-        layer: Layer::Reading,
-    }
+    Cause::NoForm.at(line, Layer::Reading)
 }
 
 // A bracket, the head word and a space.
+#[tactic(auto, unfolding(crate::specs::Forms::opening_of))]
 fn opening(cursor: &mut Cursor, wanted: Head, line: usize) -> Result<(), Fault>
     ensures { Passes (formed line (opening_of wanted (rest_of cursor.old))) result (rest_of cursor.new) }
 {
@@ -107,6 +105,7 @@ fn opening(cursor: &mut Cursor, wanted: Head, line: usize) -> Result<(), Fault>
 }
 
 // A head word with its number, as `(cost 5)`.
+#[tactic(auto, unfolding(crate::specs::Forms::field_of))]
 fn field(cursor: &mut Cursor, wanted: Head, line: usize) -> Result<u32, Fault>
     ensures { Passes (formed line (field_of wanted (rest_of cursor.old))) result (rest_of cursor.new) }
 {
@@ -124,6 +123,7 @@ fn field(cursor: &mut Cursor, wanted: Head, line: usize) -> Result<u32, Fault>
 }
 
 // The line of the core count, as `(cores 2)`.
+#[tactic(auto, unfolding(crate::specs::Forms::cores_of))]
 pub(crate) fn cores_line(cursor: &mut Cursor, line: usize) -> Result<u32, Fault>
     ensures { Passes (formed line (cores_of (rest_of cursor.old))) result (rest_of cursor.new) }
 {
@@ -135,6 +135,7 @@ pub(crate) fn cores_line(cursor: &mut Cursor, line: usize) -> Result<u32, Fault>
 }
 
 // The front of a stage's line, as `(stage audio`.
+#[tactic(auto, unfolding(crate::specs::Forms::title_of))]
 fn title(cursor: &mut Cursor, line: usize) -> Result<[u8; NAME_BYTES], Fault>
     ensures { Passes (formed line (title_of (rest_of cursor.old))) result (rest_of cursor.new) }
 {
@@ -149,6 +150,7 @@ fn title(cursor: &mut Cursor, line: usize) -> Result<[u8; NAME_BYTES], Fault>
 }
 
 // A space, and a head word with its number.
+#[tactic(auto, unfolding(crate::specs::Forms::part_of))]
 fn part(cursor: &mut Cursor, wanted: Head, line: usize) -> Result<u32, Fault>
     ensures { Passes (formed line (part_of wanted (rest_of cursor.old))) result (rest_of cursor.new) }
 {
@@ -159,6 +161,7 @@ fn part(cursor: &mut Cursor, wanted: Head, line: usize) -> Result<u32, Fault>
 }
 
 // The line of a stage, as `(stage audio (cost 1) (period 4))`.
+#[tactic(auto, unfolding(crate::specs::Forms::stage_of))]
 pub(crate) fn stage_line(cursor: &mut Cursor, line: usize) -> Result<Stage, Fault>
     ensures { Passes (formed line (stage_of (rest_of cursor.old))) result (rest_of cursor.new) }
 {

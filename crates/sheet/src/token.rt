@@ -20,10 +20,7 @@ pub(crate) enum Token<'a> {
 fn is_digit(byte: u8) -> bool
     ensures { result ≡ digit byte }
 {
-    match byte as char {
-        '0'..='9' => true,
-        _ => false,
-    }
+    matches!(byte as char, '0'..='9')
 }
 
 // How many bytes in front are digits.
@@ -31,11 +28,7 @@ fn digits(bytes: &[u8]) -> usize
     ensures value { result ≡ digits_front bytes.now }
     ensures within { result ≤ length bytes.now }
 {
-    let mut n = 0;
-    while n < bytes.len() && is_digit(bytes[n]) {
-        n += 1;
-    }
-    n
+    bytes.iter().take_while(|byte| is_digit(**byte)).count()
 }
 
 // The first token, and how many bytes it has.
@@ -50,13 +43,11 @@ pub(crate) fn first_token<'a>(bytes: &'a [u8]) -> (Token<'a>, usize)
     match *first as char {
         'a'..='z' => {
             let n = letters(bytes);
-            let (word, _) = bytes.split_at(n);
-            (Token::Word(word), n)
+            (Token::Word(&bytes[..n]), n)
         }
         '0'..='9' => {
             let n = digits(bytes);
-            let (number, _) = bytes.split_at(n);
-            (Token::Number(number), n)
+            (Token::Number(&bytes[..n]), n)
         }
         '(' => (Token::Open, 1),
         ')' => (Token::Close, 1),

@@ -12,14 +12,14 @@ pub(crate) struct Placed<'a> {
     pub(crate) place: usize,
 }
 
-// The place before the first byte.
-pub(crate) fn begin<'a>(text: &'a [u8]) -> Cursor<'a>
-    ensures { rest_of result ≡ text.now }
-{
-    Cursor { text, place: 0 }
-}
-
 impl<'a> Cursor<'a> {
+    // The place before the first byte.
+    pub(crate) fn new(text: &'a [u8]) -> Cursor<'a>
+        ensures { rest_of result ≡ text.now }
+    {
+        Cursor { text, place: 0 }
+    }
+
     // The next token, which stands in the sheet at the place that the answer says.
     pub(crate) fn next(&mut self) -> Placed<'a>
         ensures token { heard result.token ≡ lexeme (rest_of self.old) }
@@ -28,8 +28,7 @@ impl<'a> Cursor<'a> {
         ensures text { self.new.text.now ≡ self.old.text.now }
     {
         let place = self.place;
-        let (_, rest) = self.text.split_at(place);
-        let (token, length) = first_token(rest);
+        let (token, length) = first_token(&self.text[place..]);
         self.place = place + length;
         Placed { token, place }
     }

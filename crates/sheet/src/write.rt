@@ -1,12 +1,14 @@
 // Writing a sheet.
-ghost use Rattle.std.specs.Prelude.{◌≡◌, ◌↔◌, ◌++◌};
+ghost use Rattle.std.specs.Prelude.{◌≡◌, ◌↔◌, ◌++◌, Ok};
 ghost use Rattle.std.specs.List.{flat_map};
 ghost use Rattle.model.specs.Limits.{review_box};
+ghost use Rattle.model.specs.declared.fault.Layer.{Layer};
 ghost use Rattle.model.specs.Lawful.{Lawful};
+ghost use Rattle.model.specs.Tables.{check_of};
 ghost use Rattle.writing.specs.Pages.{page_answer, page_after};
 ghost use Rattle.writing.specs.Room.{cut};
 ghost use Rattle.writing.specs.Texts.{text_of};
-ghost use Rattle.sheet.specs.Printed.{cores_text, stage_text, page_of};
+ghost use Rattle.sheet.specs.Printed.{cores_text, stage_text, sheet_of, page_of};
 ghost use Rattle.sheet.specs.Exact.{WritesBack, Accepted, Longest};
 
 use model::fault::{Fault, Layer};
@@ -15,10 +17,13 @@ use model::names::word;
 use model::stage::Stage;
 use model::table::check;
 use writing::text::Text;
+use writing::written::{Written, write};
 
 // The most bytes of a sheet: a page of so many takes any.
 pub const LONGEST_SHEET: usize = 3146;
 
+// Adds the line of the core count.
+#[tactic(auto, using(writing::proofs::Texts::pieces), unfolding(crate::specs::Printed::cores_text))]
 fn put_cores(text: &mut Text, cores: usize)
     ensures { text_of text.new ≡ cut (text_of text.old ++ cores_text cores) }
 {
@@ -28,6 +33,7 @@ fn put_cores(text: &mut Text, cores: usize)
 }
 
 // Adds the line of a stage.
+#[tactic(auto, using(writing::proofs::Texts::pieces), unfolding(crate::specs::Printed::stage_text))]
 fn put_stage(text: &mut Text, stage: &Stage)
     ensures { text_of text.new ≡ cut (text_of text.old ++ stage_text stage.now) }
 {
@@ -49,6 +55,23 @@ fn put_stages(text: &mut Text, table: &[Stage])
     }
 }
 
+// A core count and a table that the check of writing has accepted.
+#[derive(Clone, Copy)]
+struct Sheet<'a> {
+    cores: usize,
+    table: &'a [Stage],
+    ghost checked: { check_of review_box cores table.now Layer.Writing ≡ Ok tt },
+}
+
+impl<'a> Written for Sheet<'a> {
+    ghost text = { λ sheet. sheet_of sheet.cores sheet.table.now };
+
+    fn put(&self, onto: &mut Text) {
+        put_cores(onto, self.cores);
+        put_stages(onto, self.table);
+    }
+}
+
 // Writes the sheet of a core count and a table to the front of the page, and answers how many bytes it has.
 // A refusal leaves the page as it was.
 pub fn write_sheet(cores: usize, table: &[Stage], page: &mut [u8]) -> Result<usize, Fault>
@@ -59,8 +82,5 @@ pub fn write_sheet(cores: usize, table: &[Stage], page: &mut [u8]) -> Result<usi
     ensures longest { Longest LONGEST_SHEET result }
 {
     check(&REVIEW_BOX, cores, table, Layer::Writing)?;
-    let mut text = Text::new();
-    put_cores(&mut text, cores);
-    put_stages(&mut text, table);
-    text.deliver(page)
+    write(&Sheet { cores, table }, page)
 }

@@ -1,6 +1,7 @@
 -- Composing a text from pieces.
-use Rattle.std.proofs.Common.{◌≡◌, ℕ, ◌≤◌, List, [], ◌++◌, length, sym, ap, ◌∙◌, append_assoc}
-use Rattle.std.proofs.lemmas.List.{take_all}
+use Rattle.std.proofs.Common.{◌≡◌, ℕ, ◌+◌, ◌<◌, ◌≤◌, List, [], ◌++◌, length, get_or, take, sym, ap, ◌∙◌, append_assoc}
+use Rattle.std.specs.List.{flat_map}
+use Rattle.std.proofs.lemmas.List.{flat_map_more, take_more, take_all}
 use Rattle.writing.specs.declared.text.Text.{Text}
 use Rattle.writing.specs.Room.{room, cut}
 use Rattle.writing.specs.Texts.{text_of}
@@ -28,3 +29,16 @@ put_more start before piece was is =
 -- a piece on the text of no byte, if there is room for it
 pub put_alone : (piece : List ℕ) {start x : List ℕ} → start ≡ [] → x ≡ cut (start ++ piece) → length piece ≤ room → x ≡ piece
 put_alone piece none is fits = is ∙ ap (λ l. cut (l ++ piece)) none ∙ cut_whole piece fits
+
+-- the texts of a list, one behind the other: with one more of them, and with all
+module _ {A : Type 0} (f : A → List ℕ) (xs : List A) (i : ℕ) (start : List ℕ) where
+  pub put_next : (d : A) {x y : List ℕ} → i < length xs → x ≡ cut (start ++ flat_map f (take i xs)) → y ≡ cut (x ++ f (get_or xs i d)) → y ≡ cut (start ++ flat_map f (take (i + 1) xs))
+  put_next d there was is =
+      put_more start (flat_map f (take i xs)) (f (get_or xs i d)) was is
+      ∙ ap (λ l. cut (start ++ l)) (flat_map_more f [] (take i xs) (get_or xs i d) ∙ ap (flat_map f) (sym (take_more xs i d there)))
+
+  pub put_all : {x : List ℕ} → length xs ≤ i → x ≡ cut (start ++ flat_map f (take i xs)) → x ≡ cut (start ++ flat_map f xs)
+  put_all past was = was ∙ ap (λ l. cut (start ++ flat_map f l)) (take_all i xs past)
+
+-- for the pieces of a text, put one behind the other
+pub ruleset pieces = (cut_again, append_assoc)
