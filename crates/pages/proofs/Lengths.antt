@@ -1,9 +1,8 @@
 -- How long the texts can be.
-use Rattle.std.proofs.Common.{◌≡◌, ℕ, zero, suc, ◌+◌, ◌-◌, ◌*◌, ◌^◌, ◌<◌, ◌≤◌, min, true, cond, eqb, leb, List, [], ◌∷◌, length, get_or, take, codes, decimal, sym, refl, ap, ◌∙◌, ⊎_elim, mul-le-mul_left, mul-suc, arith, length-append, length-take}
-use native.Mathlib.Nat.{sub-zero}
+use Rattle.std.proofs.Common.{◌≡◌, ℕ, zero, suc, ◌+◌, ◌*◌, ◌^◌, ◌<◌, ◌≤◌, min, true, cond, eqb, leb, List, [], ◌∷◌, length, get_or, take, codes, decimal, sym, refl, ap, ◌∙◌, ⊎_elim, mul-suc, arith, length-append, length-take}
 use Rattle.std.specs.List.{flat_map}
 use Rattle.std.proofs.lemmas.Fmt.{length-decimal-le}
-use Rattle.std.proofs.lemmas.List.{take_all, get_or-take}
+use Rattle.std.proofs.lemmas.List.{take_all}
 use Rattle.std.proofs.lemmas.List.Sums.{prefix_len-le-length}
 use Rattle.std.proofs.lemmas.Bool.{and_parts, eqb-true, cases_lt}
 use Rattle.std.proofs.lemmas.Bool.Decides.{nat_tests}
@@ -16,7 +15,7 @@ use Rattle.placing.specs.Placements.{no_placement}
 use Rattle.placing.specs.Plans.{Layout}
 use Rattle.placing.specs.Sound.{SoundPlacement, Sound}
 use Rattle.pages.specs.Refusals.{refusal_text}
-use Rattle.pages.specs.Ticks.{number_text, line_text, tick_text}
+use Rattle.pages.specs.Ticks.{number_text, line_text}
 use Rattle.pages.specs.Plans.{whole_text, share_text, member_text, core_text, core_lines, plan_text}
 
 cause_small : (c : Cause) → cause_number c < 100
@@ -139,7 +138,7 @@ plan_short l narrow few y =
     simp length-append (omega arith)
 
 -- numbers of at most d digits each
-numbers_short : (d : ℕ) (ns : List ℕ) → ((i : ℕ) → i < length ns → length (decimal (get_or ns i 0)) ≤ d) → length (flat_map number_text ns) ≤ suc d * length ns
+pub numbers_short : (d : ℕ) (ns : List ℕ) → ((i : ℕ) → i < length ns → length (decimal (get_or ns i 0)) ≤ d) → length (flat_map number_text ns) ≤ suc d * length ns
 numbers_short d [] h = omega arith
 numbers_short d (n ∷ ns) h =
     let one = h 0 (omega arith) in
@@ -147,26 +146,15 @@ numbers_short d (n ∷ ns) h =
     let more = mul-suc (suc d) (length ns) in
     simp length-append (omega arith)
 
--- a line whose numbers have at most d digits each
-pub line_short : (d tick : ℕ) (numbers : List ℕ) → length (decimal tick) ≤ d → length numbers ≤ 8 → ((i : ℕ) → i < length numbers → length (decimal (get_or numbers i 0)) ≤ d) → length (line_text tick numbers) ≤ 16 + 9 * d
+-- a line of at most eight numbers
+pub line_short : (tick : ℕ) (numbers : List ℕ) → length (decimal tick) ≤ 20 → length (flat_map number_text numbers) ≤ 32 → length (line_text tick numbers) ≤ 60
 unfolding line_text
-line_short d tick numbers number few small =
-    let all = numbers_short d numbers small in
-    let most = mul-le-mul_left (suc d) few in
-    simp length-append (omega arith)
-
-pub tick_short : (d tick cores : ℕ) (answer : List ℕ) → length (decimal tick) ≤ d → min cores (length answer) ≤ 8 → ((i : ℕ) → i < length answer → length (decimal (get_or answer i 0)) ≤ d) → length (tick_text tick cores answer) ≤ 16 + 9 * d
-tick_short d tick cores answer number few small =
-    let shown = length-take cores answer in
-    let each : (i : ℕ) → i < length (take cores answer) → length (decimal (get_or (take cores answer) i 0)) ≤ d =
-    λ i lt. let l : i < cores = omega arith in rw get_or-take (small i (omega arith)) in
-    line_short d tick (take cores answer) number (omega arith) each
+line_short tick numbers number all = simp length-append (omega arith)
 
 -- no more numbers than an answer has
-pub numbers_shown : (cores count : ℕ) (answer : List ℕ) → length answer ≡ 8 → count ≡ min cores 8 → take (count - 0) answer ≡ take cores answer
+pub numbers_shown : (cores count : ℕ) (answer : List ℕ) → length answer ≡ 8 → count ≡ min cores 8 → take count answer ≡ take cores answer
 numbers_shown cores count answer eight e =
-    ap (λ k. take k answer) (sub-zero count)
-    ∙ ⊎_elim
+    ⊎_elim
     (λ lt. take_all count answer (omega arith) ∙ sym (take_all cores answer (omega arith)))
     (λ le. let same : count ≡ cores = omega arith in ap (λ k. take k answer) same)
     (cases_lt 8 cores)

@@ -12,8 +12,10 @@ use model::names::word;
 use placing::placement::Placement;
 use placing::plan::Plan;
 use writing::text::Text;
+use writing::written::{Written, write};
 
 // `(whole audio)`, a space before it.
+#[tactic(auto, using(writing::proofs::Texts::pieces), unfolding(crate::specs::Plans::whole_text))]
 fn put_whole(text: &mut Text, placement: &Placement)
     ensures { text_of text.new ≡ cut (text_of text.old ++ whole_text placement.now) }
 {
@@ -23,6 +25,7 @@ fn put_whole(text: &mut Text, placement: &Placement)
 }
 
 // `(first grain 2)` or `(second grain 2)`, from its head on.
+#[tactic(auto, using(writing::proofs::Texts::pieces), unfolding(crate::specs::Plans::share_text))]
 fn put_share(text: &mut Text, head: &[u8], placement: &Placement, share: u32)
     ensures { text_of text.new ≡ cut (text_of text.old ++ share_text head.now placement.now share) }
 {
@@ -56,6 +59,7 @@ fn put_members(text: &mut Text, core: usize, placements: &[Placement])
     }
 }
 
+#[tactic(auto, using(writing::proofs::Texts::pieces), unfolding(crate::specs::Plans::core_text))]
 fn put_core(text: &mut Text, core: usize, placements: &[Placement])
     ensures { text_of text.new ≡ cut (text_of text.old ++ core_text core placements.now) }
 {
@@ -65,6 +69,7 @@ fn put_core(text: &mut Text, core: usize, placements: &[Placement])
     text.put(b")\n");
 }
 
+#[tactic(auto, using(writing::proofs::Texts::pieces))]
 fn put_cores(text: &mut Text, cores: usize, placements: &[Placement])
     ensures { text_of text.new ≡ cut (text_of text.old ++ core_lines cores placements.now) }
 {
@@ -73,15 +78,22 @@ fn put_cores(text: &mut Text, cores: usize, placements: &[Placement])
     }
 }
 
-// Composes the plan page.
-pub fn put_plan(text: &mut Text, plan: &Plan)
-    ensures { text_of text.new ≡ cut (text_of text.old ++ plan_text (layout_of plan.now)) }
-{
-    let cores = plan.cores();
-    text.put(b"(plan ");
-    text.put_number(cores);
-    text.put(b")\n");
-    put_cores(text, cores, plan.placements());
+// The plan page of a plan.
+#[derive(Clone, Copy)]
+pub struct PlanPage<'a> {
+    pub plan: &'a Plan,
+}
+
+impl<'a> Written for PlanPage<'a> {
+    ghost text = { λ page. plan_text (layout_of page.plan.now) };
+
+    fn put(&self, onto: &mut Text) {
+        let cores = self.plan.cores();
+        onto.put(b"(plan ");
+        onto.put_number(cores);
+        onto.put(b")\n");
+        put_cores(onto, cores, self.plan.placements());
+    }
 }
 
 // Writes the plan page to the front of the page, and answers how many bytes it has.
@@ -90,7 +102,5 @@ pub fn write_plan(plan: &Plan, page: &mut [u8]) -> Result<usize, Fault>
     ensures answer { result ≡ page_answer (Ok (plan_text (layout_of plan.now))) page.old }
     ensures page { page.new ≡ page_after (Ok (plan_text (layout_of plan.now))) page.old }
 {
-    let mut text = Text::new();
-    put_plan(&mut text, plan);
-    text.deliver(page)
+    write(&PlanPage { plan }, page)
 }

@@ -7,16 +7,24 @@ ghost use Rattle.pages.specs.Refusals.{refusal_text};
 
 use model::fault::Fault;
 use writing::text::Text;
+use writing::written::{Written, write};
 
-// Composes the line `(refused N P)` of a fault.
-pub fn put_refusal(text: &mut Text, fault: Fault)
-    ensures { text_of text.new ≡ cut (text_of text.old ++ refusal_text fault) }
-{
-    text.put(b"(refused ");
-    text.put_number(fault.cause.number() as usize);
-    text.put(b" ");
-    text.put_number(fault.place);
-    text.put(b")\n");
+// The line `(refused N P)` of a fault.
+#[derive(Clone, Copy)]
+pub struct Refusal {
+    pub fault: Fault,
+}
+
+impl Written for Refusal {
+    ghost text = { λ line. refusal_text line.fault };
+
+    fn put(&self, onto: &mut Text) {
+        onto.put(b"(refused ");
+        onto.put_number(u8::from(self.fault.cause) as usize);
+        onto.put(b" ");
+        onto.put_number(self.fault.place);
+        onto.put(b")\n");
+    }
 }
 
 // Writes that line, and answers how many bytes it has. A page that is too short is left as it was.
@@ -24,7 +32,5 @@ pub fn write_refusal(fault: Fault, page: &mut [u8]) -> Result<usize, Fault>
     ensures answer { result ≡ page_answer (Ok (refusal_text fault)) page.old }
     ensures page { page.new ≡ page_after (Ok (refusal_text fault)) page.old }
 {
-    let mut text = Text::new();
-    put_refusal(&mut text, fault);
-    text.deliver(page)
+    write(&Refusal { fault }, page)
 }

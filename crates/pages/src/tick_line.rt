@@ -1,5 +1,5 @@
 // The tick line: the number of a tick, and the stage that each core runs in it.
-ghost use Rattle.std.specs.Prelude.{◌≡◌, ◌≤◌, ◌++◌, length, Ok};
+ghost use Rattle.std.specs.Prelude.{◌≡◌, ◌*◌, ◌≤◌, ◌++◌, length, take, Ok};
 ghost use Rattle.std.specs.List.{flat_map};
 ghost use Rattle.model.specs.Limits.{review_box};
 ghost use Rattle.writing.specs.Pages.{page_answer, page_after};
@@ -10,9 +10,11 @@ ghost use Rattle.pages.specs.Ticks.{number_text, line_text, tick_text};
 use model::fault::Fault;
 use model::limits::MOST_CORES;
 use writing::text::Text;
+use writing::written::{Written, write};
 
 fn put_numbers(text: &mut Text, numbers: &[u8])
-    ensures { text_of text.new ≡ cut (text_of text.old ++ flat_map number_text numbers.now) }
+    ensures added { text_of text.new ≡ cut (text_of text.old ++ flat_map number_text numbers.now) }
+    ensures short { length (flat_map number_text numbers.now) ≤ 4 * length numbers.now }
 {
     for number in numbers {
         text.put(b" ");
@@ -20,33 +22,37 @@ fn put_numbers(text: &mut Text, numbers: &[u8])
     }
 }
 
-// Composes the line of a tick and these numbers.
-fn put_line(text: &mut Text, tick: usize, numbers: &[u8])
-    ensures { text_of text.new ≡ cut (text_of text.old ++ line_text tick numbers.now) }
-{
-    text.put(b"(tick ");
-    text.put_number(tick);
-    put_numbers(text, numbers);
-    text.put(b")\n");
+// The line of a tick: its number, and a number for each core.
+#[derive(Clone, Copy)]
+pub struct TickLine<'a> {
+    tick: usize,
+    numbers: &'a [u8],
+    ghost few: { length numbers.now ≤ review_box.cores },
 }
 
-// Composes the line of a tick of a plan with so many cores.
-pub fn put_tick(text: &mut Text, tick: usize, cores: usize, answer: &[u8; MOST_CORES])
-    ensures { text_of text.new ≡ cut (text_of text.old ++ tick_text tick cores answer.now) }
-{
-    let shown = cores.min(MOST_CORES);
-    put_line(text, tick, &answer[0..shown]);
+impl<'a> TickLine<'a> {
+    // The line of a tick of a plan with so many cores.
+    pub fn new(tick: usize, cores: usize, answer: &'a [u8; MOST_CORES]) -> TickLine<'a>
+        ensures tick { result.tick ≡ tick }
+        ensures numbers { result.numbers.now ≡ take cores answer.now }
+    {
+        let count = cores.min(MOST_CORES);
+        TickLine {
+            tick,
+            numbers: &answer[..count],
+        }
+    }
 }
 
-// The line of a tick and these numbers.
-fn write_line(tick: usize, numbers: &[u8], page: &mut [u8]) -> Result<usize, Fault>
-    requires { length numbers.now ≤ review_box.cores }
-    ensures answer { result ≡ page_answer (Ok (line_text tick numbers.now)) page.old }
-    ensures page { page.new ≡ page_after (Ok (line_text tick numbers.now)) page.old }
-{
-    let mut text = Text::new();
-    put_line(&mut text, tick, numbers);
-    text.deliver(page)
+impl<'a> Written for TickLine<'a> {
+    ghost text = { λ line. line_text line.tick line.numbers.now };
+
+    fn put(&self, onto: &mut Text) {
+        onto.put(b"(tick ");
+        onto.put_number(self.tick);
+        put_numbers(onto, self.numbers);
+        onto.put(b")\n");
+    }
 }
 
 // Writes the line of a tick of a plan with so many cores, and answers how many bytes it has.
@@ -60,6 +66,5 @@ pub fn write_tick(
     ensures answer { result ≡ page_answer (Ok (tick_text tick cores answer.now)) page.old }
     ensures page { page.new ≡ page_after (Ok (tick_text tick cores answer.now)) page.old }
 {
-    let count = cores.min(MOST_CORES);
-    write_line(tick, &answer[0..count], page)
+    write(&TickLine::new(tick, cores, answer), page)
 }

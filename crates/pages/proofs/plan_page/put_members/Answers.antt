@@ -1,10 +1,7 @@
-use Rattle.std.proofs.Common.{[], ◌++◌, get_or, take, sym, ap, ◌∙◌, append-nil}
-use Rattle.std.specs.List.{flat_map}
-use Rattle.std.proofs.lemmas.List.{flat_map_more, take_more, take_all}
+use Rattle.std.proofs.Common.{append-nil}
 use Rattle.placing.specs.Placements.{no_placement}
-use Rattle.writing.specs.Room.{cut}
 use Rattle.writing.specs.Texts.{text_of}
-use Rattle.writing.proofs.Texts.{whole, put_more}
+use Rattle.writing.proofs.Texts.{whole, put_next, put_all}
 use Rattle.pages.specs.Plans.{member_text}
 use Rattle.pages.proofs.plan_page.put_members.Goals as goal
 
@@ -13,12 +10,8 @@ loop-placement-init c = simp append-nil (whole c.args.text.now)
 
 pub loop-placement-preserved : goal.loop-placement-preserved
 loop-placement-preserved c =
-    let start = text_of c.args.text.now in
-    let ps = c.args.placements.now in
-    let i = c.loop-placement.placement-index in
-    let one = get_or ps i no_placement in
-    put_more start (flat_map (member_text c.args.core) (take i ps)) (member_text c.args.core one) c.loop-placement.invariant c.put_member.ensures
-    ∙ ap (λ l. cut (start ++ l)) (flat_map_more (member_text c.args.core) [] (take i ps) one ∙ ap (flat_map (member_text c.args.core)) (sym (take_more ps i no_placement c.loop-placement-test.true)))
+    put_next (member_text c.args.core) c.args.placements.now c.loop-placement.placement-index (text_of c.args.text.now) no_placement c.loop-placement-test.true c.loop-placement.invariant c.put_member.ensures
 
 pub returns : goal.returns
-returns c = c.loop-placement.invariant ∙ ap (λ l. cut (text_of c.args.text.now ++ flat_map (member_text c.args.core) l)) (take_all c.loop-placement.placement-index c.args.placements.now c.loop-placement-test.false)
+returns c =
+    put_all (member_text c.args.core) c.args.placements.now c.loop-placement.placement-index (text_of c.args.text.now) c.loop-placement-test.false c.loop-placement.invariant

@@ -1,6 +1,5 @@
-use Rattle.std.proofs.Common.{sym, ap, ◌∙◌, append-nil}
+use Rattle.std.proofs.Common.{append-nil}
 use Rattle.model.specs.Lawful.{no_stage}
-use Rattle.writing.specs.Room.{cut}
 use Rattle.writing.specs.Texts.{text_of}
 use Rattle.writing.proofs.Texts.{whole, put_next, put_all}
 use Rattle.sheet.specs.Printed.{stage_text}
