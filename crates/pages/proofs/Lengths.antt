@@ -1,8 +1,8 @@
 -- How long the texts can be.
-use Rattle.std.proofs.Common.{◌≡◌, ℕ, zero, suc, ◌+◌, ◌*◌, ◌^◌, ◌<◌, ◌≤◌, min, true, cond, eqb, leb, List, [], ◌∷◌, length, get_or, take, codes, decimal, sym, refl, ap, ◌∙◌, ⊎_elim, mul-suc, arith, length-append, length-take}
+use Rattle.std.proofs.Common.{◌≡◌, ℕ, zero, suc, ◌+◌, ◌*◌, ◌^◌, ◌<◌, ◌≤◌, min, true, cond, eqb, leb, List, [], ◌∷◌, length, get_or, take, codes, decimal, sym, refl, ap, ◌∙◌, ⊎_elim, mul-le-mul_left, mul-suc, arith, length-append, length-take}
 use Rattle.std.specs.List.{flat_map}
 use Rattle.std.proofs.lemmas.Fmt.{length-decimal-le}
-use Rattle.std.proofs.lemmas.List.{take_all}
+use Rattle.std.proofs.lemmas.List.{take_all, get_or-take}
 use Rattle.std.proofs.lemmas.List.Sums.{prefix_len-le-length}
 use Rattle.std.proofs.lemmas.Bool.{and_parts, eqb-true, cases_lt}
 use Rattle.std.proofs.lemmas.Bool.Decides.{nat_tests}
@@ -15,7 +15,7 @@ use Rattle.placing.specs.Placements.{no_placement}
 use Rattle.placing.specs.Plans.{Layout}
 use Rattle.placing.specs.Sound.{SoundPlacement, Sound}
 use Rattle.pages.specs.Refusals.{refusal_text}
-use Rattle.pages.specs.Ticks.{number_text, line_text}
+use Rattle.pages.specs.Ticks.{number_text, line_text, tick_text}
 use Rattle.pages.specs.Plans.{whole_text, share_text, member_text, core_text, core_lines, plan_text}
 
 cause_small : (c : Cause) → cause_number c < 100
@@ -146,10 +146,21 @@ numbers_short d (n ∷ ns) h =
     let more = mul-suc (suc d) (length ns) in
     simp length-append (omega arith)
 
--- a line of at most eight numbers
-pub line_short : (tick : ℕ) (numbers : List ℕ) → length (decimal tick) ≤ 20 → length (flat_map number_text numbers) ≤ 32 → length (line_text tick numbers) ≤ 60
+-- a line, by its parts
+pub line_short : (a b tick : ℕ) (numbers : List ℕ) → length (decimal tick) ≤ a → length (flat_map number_text numbers) ≤ b → length (line_text tick numbers) ≤ a + b + 8
 unfolding line_text
-line_short tick numbers number all = simp length-append (omega arith)
+line_short a b tick numbers number all = simp length-append (omega arith)
+
+-- the line of an answer whose numbers have at most d digits each
+pub tick_short : (d tick cores : ℕ) (answer : List ℕ) → length (decimal tick) ≤ d → min cores (length answer) ≤ 8 → ((i : ℕ) → i < length answer → length (decimal (get_or answer i 0)) ≤ d) → length (tick_text tick cores answer) ≤ 16 + 9 * d
+tick_short d tick cores answer number few small =
+    let shown = length-take cores answer in
+    let each : (i : ℕ) → i < length (take cores answer) → length (decimal (get_or (take cores answer) i 0)) ≤ d =
+    λ i lt. let l : i < cores = omega arith in rw get_or-take (small i (omega arith)) in
+    let all = numbers_short d (take cores answer) each in
+    let eight : length (take cores answer) ≤ 8 = omega arith in
+    let most = mul-le-mul_left (suc d) eight in
+    omega (arith, line_short d (suc d * 8) tick (take cores answer) number (omega arith))
 
 -- no more numbers than an answer has
 pub numbers_shown : (cores count : ℕ) (answer : List ℕ) → length answer ≡ 8 → count ≡ min cores 8 → take count answer ≡ take cores answer

@@ -1,11 +1,6 @@
 -- How long the output can be.
-use Rattle.std.proofs.Common.{◌≡◌, ℕ, zero, suc, ◌+◌, ◌*◌, ◌<◌, ◌≤◌, leb, List, length, get_or, Ok, Err, decimal, arith, length-append}
+use Rattle.std.proofs.Common.{ℕ, zero, suc, ◌+◌, ◌*◌, ◌<◌, ◌≤◌, List, length, get_or, Ok, decimal, arith, length-append}
 use Rattle.std.proofs.lemmas.Fmt.{length-decimal-le}
-use Rattle.std.proofs.lemmas.Bool.{le-leb, cond-true}
-use Rattle.model.specs.declared.fault.Cause.{Cause}
-use Rattle.model.specs.declared.fault.Layer.{Layer}
-use Rattle.model.specs.Faults.{fault}
-use Rattle.writing.specs.Pages.{page_answer}
 use Rattle.placing.specs.declared.plan.Plan.{Plan}
 use Rattle.placing.specs.Plans.{Layout, layout_of}
 use Rattle.placing.proofs.SoundPlans.{plan_sound, plan_few}
@@ -33,7 +28,3 @@ output_short p =
     let page = plan_short (layout_of p) p.narrow (plan_few p) (plan_sound p) in
     let lines = lines_short 12 0 (layout_of p) fresh_states (omega arith) p.narrow (plan_few p) in
     simp length-append (omega arith)
-
--- a page as large as a text takes it
-pub page_takes : (text page : List ℕ) → length text ≤ 4096 → 4096 ≤ length page → page_answer (Ok text) page ≡ Ok (length text)
-page_takes text page short long = cond-true (leb (length text) (length page)) (Ok (length text)) (Err (fault Cause.ShortPage 0 Layer.Writing)) (le-leb (length text) (length page) (omega arith))

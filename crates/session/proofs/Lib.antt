@@ -1,3 +1,4 @@
 pub mod Plans
 pub mod Lines
 pub mod Lengths
+pub mod Fronts

@@ -1,6 +1,5 @@
 -- From what was read and placed to the plan of a text.
-use Rattle.std.proofs.Common.{◌≡◌, ℕ, ◌-◌, List, take, Ok, Err, Result, sym, ap, ◌∙◌}
-use native.Mathlib.Nat.{sub-zero}
+use Rattle.std.proofs.Common.{◌≡◌, ℕ, List, take, Ok, Err, Result, sym, ap, ◌∙◌}
 use Rattle.model.specs.declared.fault.Fault.{Fault}
 use Rattle.model.specs.declared.stage.Stage.{Stage}
 use Rattle.sheet.specs.Sheets.{read_of}
@@ -11,10 +10,10 @@ use Rattle.placing.specs.Placing.{place_of}
 use Rattle.placing.specs.Plans.{Layout, laid_out, place_answer, place_layout}
 use Rattle.session.specs.Sessions.{session_rule, plan_for}
 
--- the stages that were read are placed: the part of the table from 0 to n
-pub plan_read : (text : List ℕ) (table : List Stage) (m n : ℕ) → SheetOf text table m n → plan_for (read_of text) ≡ laid_out m (place_of session_rule m (take (n - 0) table))
+-- the stages that were read are placed: the first n of the table
+pub plan_read : (text : List ℕ) (table : List Stage) (m n : ℕ) → SheetOf text table m n → plan_for (read_of text) ≡ laid_out m (place_of session_rule m (take n table))
 plan_read text table m n h =
-    ap plan_for (read_forth text m h.stages h.lawful h.printed) ∙ ap (λ ss. laid_out m (place_of session_rule m ss)) (sym h.stored ∙ ap (λ k. take k table) (sym (sub-zero n)))
+    ap plan_for (read_forth text m h.stages h.lawful h.printed) ∙ ap (λ ss. laid_out m (place_of session_rule m ss)) (sym h.stored)
 
 pub laid_refused : (m : ℕ) (x : Result (List Placement) Fault) (f : Fault) → Err f ≡ place_answer x → Err f ≡ laid_out m x
 laid_refused m (Ok ps) f e = cc

@@ -13,6 +13,10 @@ use Rattle.pages.specs.Refusals.{refusal_text}
 use Rattle.dispatch.specs.declared.state.State.{State}
 use Rattle.dispatch.specs.Ticks.{answer_of, after_tick, fresh_states}
 
+-- the most bytes that the program reads
+abbrev pub most_input : ℕ
+most_input = 4096
+
 -- the rule that sessions are placed under
 abbrev pub session_rule : List Member → Bool
 session_rule = count_cap 12 (use_cap 900000 response)

@@ -2,7 +2,7 @@
 // of its run, or why there is no plan.
 #![tactic(auto)]
 
-use input::{MOST_INPUT, read_input};
+use input::read_input;
 use output::write_session;
 use std::io;
 use std::io::Write;
@@ -13,11 +13,10 @@ mod output;
 mod planning;
 
 fn main(rt: HostRuntime) -> io::Result<()> {
-    let mut buffer = [0; MOST_INPUT];
-    let count = read_input(&mut rt.stdin(), &mut buffer)?;
+    let sheet = read_input(&mut rt.stdin())?;
     let mut page = [0; ROOM];
-    match write_session(&buffer[0..count], &mut page) {
-        Ok(n) => rt.stdout().write_all(&page[0..n]),
-        Err(_) => unreachable(),
+    match write_session(&sheet, &mut page) {
+        Ok(n) => rt.stdout().write_all(&page[..n]),
+        Err(_) => unreachable!(),
     }
 }

@@ -10,11 +10,12 @@ ghost use Rattle.session.specs.Sessions.{tick_lines, session_text};
 use crate::planning::plan_of;
 use dispatch::run::Run;
 use model::fault::Fault;
-use pages::plan_page::put_plan;
-use pages::refusal::put_refusal;
-use pages::tick_line::put_tick;
+use pages::plan_page::PlanPage;
+use pages::refusal::Refusal;
+use pages::tick_line::TickLine;
 use placing::plan::Plan;
 use writing::text::Text;
+use writing::written::{Written, write};
 
 // The ticks that are printed.
 const TICKS: usize = 12;
@@ -27,7 +28,28 @@ fn put_ticks(text: &mut Text, plan: Plan)
     let mut run = Run::open(plan);
     for tick in 0..TICKS {
         let answer = run.tick();
-        put_tick(text, tick, cores, &answer);
+        TickLine::new(tick, cores, &answer).put(text);
+    }
+}
+
+// What the program prints for the bytes of a sheet: the plan page and the first ticks, or why there is
+// no plan.
+#[derive(Clone, Copy)]
+struct Session<'a> {
+    sheet: &'a [u8],
+}
+
+impl<'a> Written for Session<'a> {
+    ghost text = { λ session. session_text session.sheet.now };
+
+    fn put(&self, onto: &mut Text) {
+        match plan_of(self.sheet) {
+            Ok(plan) => {
+                PlanPage { plan: &plan }.put(onto);
+                put_ticks(onto, plan);
+            }
+            Err(fault) => Refusal { fault }.put(onto),
+        }
     }
 }
 
@@ -38,13 +60,5 @@ pub fn write_session(sheet: &[u8], page: &mut [u8]) -> Result<usize, Fault>
     ensures page { page.new ≡ page_after (Ok (session_text sheet.now)) page.old }
     ensures fits { room ≤ length page.old → result ≡ Ok (length (session_text sheet.now)) }
 {
-    let mut text = Text::new();
-    match plan_of(sheet) {
-        Ok(plan) => {
-            put_plan(&mut text, &plan);
-            put_ticks(&mut text, plan);
-        }
-        Err(fault) => put_refusal(&mut text, fault),
-    }
-    text.deliver(page)
+    write(&Session { sheet }, page)
 }

@@ -5,7 +5,7 @@ ghost use Rattle.placing.specs.Plans.{kept};
 ghost use Rattle.session.specs.Sessions.{plan_for};
 
 use model::fault::Fault;
-use model::limits::{MOST_STAGES, NAME_BYTES};
+use model::limits::MOST_STAGES;
 use model::stage::Stage;
 use placing::plan::Plan;
 use rules::caps::{CountCap, UseCap};
@@ -17,19 +17,12 @@ const MOST_MEMBERS: u32 = 12;
 
 const MOST_USE: u32 = 900_000;
 
-const NOTHING: Stage = Stage {
-    name: [0; NAME_BYTES],
-    cost: 0,
-    period: 0,
-};
-
 // Reads the sheet and places its stages.
 pub fn plan_of(text: &[u8]) -> Result<Plan, Fault>
     ensures { kept result ≡ plan_for (read_of text.now) }
 {
-    let mut table = [NOTHING; MOST_STAGES];
+    let mut table = [Stage::default(); MOST_STAGES];
     let counts = read(text, &mut table)?;
-    let n = counts.stages;
     let rule = CountCap {
         most: MOST_MEMBERS,
         below: UseCap {
@@ -38,6 +31,6 @@ pub fn plan_of(text: &[u8]) -> Result<Plan, Fault>
         },
     };
     let mut plan = Plan::empty();
-    plan.place(&rule, counts.cores, &table[0..n])?;
+    plan.place(&rule, counts.cores, &table[..counts.stages])?;
     Ok(plan)
 }

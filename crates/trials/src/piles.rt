@@ -29,8 +29,8 @@ fn pile(count: u32, millionths: u32) -> CountCap<UseCap<Response>> {
 // All but one of the most members, with periods that rise by one to the longest.
 fn nearly_full(cost: u32) -> [Member; 63] {
     let mut load = [member(cost, 60_000); 63];
-    for i in 0..63 {
-        load[i].period = 59_938 + i as u32;
+    for (period, last) in (59_938..).zip(load.iter_mut()) {
+        last.period = period;
     }
     load
 }

@@ -3,7 +3,7 @@ use dispatch::job::Job;
 use dispatch::run::Run;
 use dispatch::state::State;
 use model::fault::{Cause, Fault, Layer};
-use model::limits::{MOST_STAGES, NAME_BYTES};
+use model::limits::MOST_STAGES;
 use model::stage::Stage;
 use placing::plan::Plan;
 use rules::response::Response;
@@ -16,23 +16,11 @@ const SHEET: &[u8; 148] =
 
 // The worked session, opened.
 fn opened() -> Result<Run, Fault> {
-    let mut table = [Stage {
-        name: [0; NAME_BYTES],
-        cost: 0,
-        period: 0,
-    }; MOST_STAGES];
+    let mut table = [Stage::default(); MOST_STAGES];
     let counts = read(SHEET, &mut table)?;
     let mut plan = Plan::empty();
-    plan.place(&Response, counts.cores, &table[0..4])?;
+    plan.place(&Response, counts.cores, &table[..counts.stages])?;
     Ok(Run::open(plan))
-}
-
-fn fault(cause: Cause, place: usize) -> Fault {
-    Fault {
-        cause,
-        place,
-        layer: Layer::Running,
-    }
 }
 
 fn ended(rt: &impl Abort, run: &mut Run, stage: usize, number: u8) -> Result<(), Fail> {
@@ -43,7 +31,7 @@ fn ended(rt: &impl Abort, run: &mut Run, stage: usize, number: u8) -> Result<(),
         },
         Err(why) => {
             assert_eq!(rt; why.place, stage);
-            assert_eq!(rt; why.cause.number(), number);
+            assert_eq!(rt; u8::from(why.cause), number);
             Ok(())
         }
     }
@@ -77,7 +65,7 @@ fn looks(rt: HostRuntime) -> Result<(), Fail> {
     };
     assert_eq!(rt; run.look(1), Ok(spent));
     assert_eq!(rt; Job::Spent.number(), 3);
-    assert_eq!(rt; run.look(5), Err(fault(Cause::NoSuchStage, 5)));
+    assert_eq!(rt; run.look(5), Err(Cause::NoSuchStage.at(5, Layer::Running)));
     Ok(())
 }
 
@@ -86,7 +74,7 @@ fn empty_plan(rt: HostRuntime) -> Result<(), Fail> {
     let mut run = Run::open(Plan::empty());
     assert_eq!(rt; run.tick(), [0; 8]);
     ended(&rt, &mut run, 1, 31)?;
-    assert_eq!(rt; run.look(0), Err(fault(Cause::NoSuchStage, 0)));
+    assert_eq!(rt; run.look(0), Err(Cause::NoSuchStage.at(0, Layer::Running)));
     let plan = run.close();
     assert_eq!(rt; plan.cores(), 0);
     Ok(())

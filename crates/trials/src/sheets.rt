@@ -22,7 +22,7 @@ fn refusal(
     place: usize,
     layer: Layer,
 ) -> Result<(), Fail> {
-    assert_eq!(rt; fault.cause.number(), number);
+    assert_eq!(rt; u8::from(fault.cause), number);
     assert_eq!(rt; fault.place, place);
     assert_eq!(rt; fault.layer, layer);
     Ok(())
@@ -69,7 +69,7 @@ fn many_refused(
     let mut page = [0; 4096];
     let n = many(stages, end, &mut page)?;
     assert!(rt; n <= 4096);
-    refused(rt, &page[0..n], number, place)
+    refused(rt, &page[..n], number, place)
 }
 
 // A stage with a name of twelve bytes.
@@ -85,10 +85,8 @@ fn long_stage(i: u8) -> Stage {
 }
 
 fn fill(table: &mut [Stage]) {
-    let mut i: u8 = 0;
-    for stage in table.iter_mut() {
+    for (i, stage) in (0u8..).zip(table.iter_mut()) {
         *stage = long_stage(i);
-        i = i.wrapping_add(1);
     }
 }
 
@@ -223,7 +221,7 @@ fn most_lines(rt: HostRuntime) -> Result<(), Fail> {
     let mut page = [0; 4096];
     let n = many(64, b"", &mut page)?;
     assert!(rt; n <= 4096);
-    accepted(&rt, &page[0..n], MOST_CORES, MOST_STAGES);
+    accepted(&rt, &page[..n], MOST_CORES, MOST_STAGES);
     many_refused(&rt, 65, b"", 15, 66)?;
     many_refused(&rt, 64, b"x", 15, 66)?;
     many_refused(&rt, 64, b"\n", 15, 66)?;

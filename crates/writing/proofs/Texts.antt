@@ -1,8 +1,10 @@
 -- Composing a text from pieces.
-use Rattle.std.proofs.Common.{◌≡◌, ℕ, ◌+◌, ◌<◌, ◌≤◌, List, [], ◌++◌, length, get_or, take, sym, ap, ◌∙◌, append_assoc}
+use Rattle.std.proofs.Common.{◌≡◌, ℕ, ◌+◌, ◌<◌, ◌≤◌, List, [], ◌++◌, length, get_or, take, Ok, sym, ap, ◌∙◌, append_assoc, arith}
 use Rattle.std.specs.List.{flat_map}
 use Rattle.std.proofs.lemmas.List.{flat_map_more, take_more, take_all}
+use Rattle.std.proofs.lemmas.Bool.{cond-true, le-leb}
 use Rattle.writing.specs.declared.text.Text.{Text}
+use Rattle.writing.specs.Pages.{page_answer}
 use Rattle.writing.specs.Room.{room, cut}
 use Rattle.writing.specs.Texts.{text_of}
 use Rattle.writing.proofs.Cut.{take_again}
@@ -42,3 +44,7 @@ module _ {A : Type 0} (f : A → List ℕ) (xs : List A) (i : ℕ) (start : List
 
 -- for the pieces of a text, put one behind the other
 pub ruleset pieces = (cut_again, append_assoc)
+
+-- a page as large as a text takes it
+pub page_takes : (text page : List ℕ) → length text ≤ room → room ≤ length page → page_answer (Ok text) page ≡ Ok (length text)
+page_takes text page short long = cond-true _ _ _ (le-leb (length text) (length page) (omega arith))

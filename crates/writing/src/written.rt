@@ -20,10 +20,11 @@ pub trait Written {
 }
 
 // Writes the text of a value to the front of the page, and answers how many bytes it has.
-// A page that is too short is left as it was.
+// A page that is too short is left as it was; one as large as a text never is.
 pub fn write<W: Written>(it: &W, page: &mut [u8]) -> Result<usize, Fault>
     ensures answer { result ≡ page_answer (Ok (W.text it.now)) page.old }
     ensures page { page.new ≡ page_after (Ok (W.text it.now)) page.old }
+    ensures fits { room ≤ length page.old → result ≡ Ok (length (W.text it.now)) }
 {
     let mut text = Text::new();
     it.put(&mut text);

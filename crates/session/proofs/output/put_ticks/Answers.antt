@@ -1,9 +1,9 @@
-use Rattle.std.proofs.Common.{◌≡◌, ◌++◌, ◌∙◌, ap₂, arith}
+use Rattle.std.proofs.Common.{◌≡◌, ◌++◌, take, ◌∙◌, ap₂, arith}
 use Rattle.writing.specs.Room.{cut}
 use Rattle.writing.specs.Texts.{text_of}
 use Rattle.writing.proofs.Texts.{whole}
 use Rattle.placing.specs.Plans.{layout_of}
-use Rattle.pages.specs.Ticks.{tick_text}
+use Rattle.pages.specs.Ticks.{line_text}
 use Rattle.session.proofs.Lines.{lines_more, lines_all}
 use Rattle.session.proofs.output.put_ticks.Goals as goal
 
@@ -13,7 +13,8 @@ loop-tick-preserved c =
     let run = c.loop-tick.run in
     let text = text_of c.loop-tick.text in
     let cores : c.cores-cores.result ≡ run.plan.cores = cc in
-    let put = c.put_tick.ensures ∙ ap₂ (λ n answer. cut (text ++ tick_text tick n answer)) cores c.tick-answer.ensures.answers in
+    let numbers = c.new.ensures.numbers ∙ ap₂ take cores c.tick-answer.ensures.answers in
+    let put = c.put.ensures.added ∙ ap₂ (λ t ns. cut (text ++ line_text t ns)) c.new.ensures.tick numbers in
     let more = lines_more tick (layout_of run.plan) run.states text (omega arith) put in
     (cc, cc)
 

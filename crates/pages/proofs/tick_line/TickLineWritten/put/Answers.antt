@@ -13,5 +13,5 @@ pub returns-clause-fits : goal.returns-clause-fits
 returns-clause-fits c =
     let line = c.args.self.now in
     let number = length-decimal-le 20 line.tick (omega arith) (omega arith) (omega arith) in
-    let short = line_short line.tick line.numbers.now number (omega arith) in
+    let short = line_short 20 32 line.tick line.numbers.now number (omega arith) in
     omega arith
