@@ -1,5 +1,6 @@
 // The rules of a table of stages, and the check that placing and writing share.
 ghost use Rattle.std.specs.Prelude.{◌≡◌, ◌↔◌, [], Ok};
+ghost use Rattle.std.specs.Result.{result_err};
 ghost use Rattle.model.specs.Lawful.{Lawful};
 ghost use Rattle.model.specs.Tables.{used, last_period, breach_of, follows, first_bad, check_of};
 
@@ -22,21 +23,21 @@ pub fn last_period(before: &[Stage]) -> u32
     before.last().map_or(0, |stage| stage.period)
 }
 
-// What keeps a stage from standing right behind these, if anything does, its name's bytes apart.
+// Refuses a stage that the rules of a table keep from standing right behind these, its name's bytes apart.
 #[tactic(auto, using(std::proofs::lemmas::Bool::Decides::nat_tests), unfolding(crate::specs::Tables::breach_of))]
-pub fn breach(limits: &Limits, stage: &Stage, before: &[Stage]) -> Option<Cause>
-    ensures { result ≡ breach_of limits.now stage.now before.now }
+pub fn check_next(limits: &Limits, stage: &Stage, before: &[Stage]) -> Result<(), Cause>
+    ensures { result_err result ≡ breach_of limits.now stage.now before.now }
 {
     if !limits.allows_times(stage.cost, stage.period) {
-        return Some(Cause::OutsideLimits);
+        return Err(Cause::OutsideLimits);
     }
     if stage.period < last_period(before) {
-        return Some(Cause::PeriodFalls);
+        return Err(Cause::PeriodFalls);
     }
     if name_used(&stage.name, before) {
-        return Some(Cause::NameUsed);
+        return Err(Cause::NameUsed);
     }
-    None
+    Ok(())
 }
 
 // Whether a record can stand right behind these.
@@ -44,7 +45,7 @@ pub fn breach(limits: &Limits, stage: &Stage, before: &[Stage]) -> Option<Cause>
 fn can_follow(limits: &Limits, stage: &Stage, before: &[Stage]) -> bool
     ensures { result ≡ follows limits.now stage.now before.now }
 {
-    is_name(&stage.name) && breach(limits, stage, before).is_none()
+    is_name(&stage.name) && check_next(limits, stage, before).is_ok()
 }
 
 // The number of the first record that cannot stand behind those before it.

@@ -1,9 +1,8 @@
 // The plan page: a line for the plan, and one for each core.
-ghost use Rattle.std.specs.Prelude.{◌≡◌, ◌++◌, Ok};
+ghost use Rattle.std.specs.Prelude.{◌≡◌, Ok};
 ghost use Rattle.std.specs.List.{flat_map};
 ghost use Rattle.writing.specs.Pages.{page_answer, page_after};
-ghost use Rattle.writing.specs.Room.{cut};
-ghost use Rattle.writing.specs.Texts.{text_of};
+ghost use Rattle.writing.specs.Texts.{Adds};
 ghost use Rattle.placing.specs.Plans.{layout_of};
 ghost use Rattle.pages.specs.Plans.{whole_text, share_text, member_text, core_text, core_lines, plan_text};
 
@@ -17,7 +16,7 @@ use writing::written::{Written, write};
 // `(whole audio)`, a space before it.
 #[tactic(auto, using(writing::proofs::Texts::pieces), unfolding(crate::specs::Plans::whole_text))]
 fn put_whole(text: &mut Text, placement: &Placement)
-    ensures { text_of text.new ≡ cut (text_of text.old ++ whole_text placement.now) }
+    ensures { Adds text.old (whole_text placement.now) text.new }
 {
     text.put(b" (whole ");
     text.put(word(&placement.name));
@@ -27,7 +26,7 @@ fn put_whole(text: &mut Text, placement: &Placement)
 // `(first grain 2)` or `(second grain 2)`, from its head on.
 #[tactic(auto, using(writing::proofs::Texts::pieces), unfolding(crate::specs::Plans::share_text))]
 fn put_share(text: &mut Text, head: &[u8], placement: &Placement, share: u32)
-    ensures { text_of text.new ≡ cut (text_of text.old ++ share_text head.now placement.now share) }
+    ensures { Adds text.old (share_text head.now placement.now share) text.new }
 {
     text.put(head);
     text.put(word(&placement.name));
@@ -38,7 +37,7 @@ fn put_share(text: &mut Text, head: &[u8], placement: &Placement, share: u32)
 
 // What a core's line says of a stage, if it says anything.
 fn put_member(text: &mut Text, core: usize, placement: &Placement)
-    ensures { text_of text.new ≡ cut (text_of text.old ++ member_text core placement.now) }
+    ensures { Adds text.old (member_text core placement.now) text.new }
 {
     if core == placement.core {
         if placement.second == 0 {
@@ -52,7 +51,7 @@ fn put_member(text: &mut Text, core: usize, placement: &Placement)
 }
 
 fn put_members(text: &mut Text, core: usize, placements: &[Placement])
-    ensures { text_of text.new ≡ cut (text_of text.old ++ flat_map (member_text core) placements.now) }
+    ensures { Adds text.old (flat_map (member_text core) placements.now) text.new }
 {
     for placement in placements {
         put_member(text, core, placement);
@@ -61,7 +60,7 @@ fn put_members(text: &mut Text, core: usize, placements: &[Placement])
 
 #[tactic(auto, using(writing::proofs::Texts::pieces), unfolding(crate::specs::Plans::core_text))]
 fn put_core(text: &mut Text, core: usize, placements: &[Placement])
-    ensures { text_of text.new ≡ cut (text_of text.old ++ core_text core placements.now) }
+    ensures { Adds text.old (core_text core placements.now) text.new }
 {
     text.put(b"(core ");
     text.put_number(core);
@@ -71,7 +70,7 @@ fn put_core(text: &mut Text, core: usize, placements: &[Placement])
 
 #[tactic(auto, using(writing::proofs::Texts::pieces))]
 fn put_cores(text: &mut Text, cores: usize, placements: &[Placement])
-    ensures { text_of text.new ≡ cut (text_of text.old ++ core_lines cores placements.now) }
+    ensures { Adds text.old (core_lines cores placements.now) text.new }
 {
     for i in 0..cores {
         put_core(text, i + 1, placements);

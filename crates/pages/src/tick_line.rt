@@ -1,10 +1,9 @@
 // The tick line: the number of a tick, and the stage that each core runs in it.
-ghost use Rattle.std.specs.Prelude.{◌≡◌, ◌*◌, ◌≤◌, ◌++◌, length, take, Ok};
+ghost use Rattle.std.specs.Prelude.{◌≡◌, ◌*◌, ◌≤◌, length, take, Ok};
 ghost use Rattle.std.specs.List.{flat_map};
 ghost use Rattle.model.specs.Limits.{review_box};
 ghost use Rattle.writing.specs.Pages.{page_answer, page_after};
-ghost use Rattle.writing.specs.Room.{cut};
-ghost use Rattle.writing.specs.Texts.{text_of};
+ghost use Rattle.writing.specs.Texts.{Adds};
 ghost use Rattle.pages.specs.Ticks.{number_text, line_text, tick_text};
 
 use model::fault::Fault;
@@ -13,7 +12,7 @@ use writing::text::Text;
 use writing::written::{Written, write};
 
 fn put_numbers(text: &mut Text, numbers: &[u8])
-    ensures added { text_of text.new ≡ cut (text_of text.old ++ flat_map number_text numbers.now) }
+    ensures added { Adds text.old (flat_map number_text numbers.now) text.new }
     ensures short { length (flat_map number_text numbers.now) ≤ 4 * length numbers.now }
 {
     for number in numbers {

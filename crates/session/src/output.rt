@@ -1,8 +1,8 @@
 // What the program prints for a sheet.
-ghost use Rattle.std.specs.Prelude.{◌≡◌, ◌≤◌, ◌++◌, length, Ok};
+ghost use Rattle.std.specs.Prelude.{◌≡◌, ◌≤◌, length, Ok};
 ghost use Rattle.writing.specs.Pages.{page_answer, page_after};
-ghost use Rattle.writing.specs.Room.{room, cut};
-ghost use Rattle.writing.specs.Texts.{text_of};
+ghost use Rattle.writing.specs.Room.{room};
+ghost use Rattle.writing.specs.Texts.{Adds};
 ghost use Rattle.placing.specs.Plans.{layout_of};
 ghost use Rattle.dispatch.specs.Ticks.{fresh_states};
 ghost use Rattle.session.specs.Sessions.{tick_lines, session_text};
@@ -22,7 +22,7 @@ const TICKS: usize = 12;
 
 // Composes the lines of the first ticks of the plan's run.
 fn put_ticks(text: &mut Text, plan: Plan)
-    ensures { text_of text.new ≡ cut (text_of text.old ++ tick_lines 12 0 (layout_of plan) fresh_states) }
+    ensures { Adds text.old (tick_lines 12 0 (layout_of plan) fresh_states) text.new }
 {
     let cores = plan.cores();
     let mut run = Run::open(plan);

@@ -12,7 +12,7 @@ use arrayvec::ArrayVec;
 use model::fault::{Cause, Fault, Layer};
 use model::limits::{MOST_STAGES, REVIEW_BOX};
 use model::stage::Stage;
-use model::table::breach;
+use model::table::check_next;
 
 // The core count of a sheet, and how many stages it has.
 #[derive(Clone, Copy, PartialEq, Eq, Debug)]
@@ -34,10 +34,8 @@ fn next_stage(cursor: &mut Cursor, before: &[Stage], line: usize) -> Result<Stag
     ensures { Passes (line_of line before.now (rest_of cursor.old)) result (rest_of cursor.new) }
 {
     let stage = stage_line(cursor, line)?;
-    match breach(&REVIEW_BOX, &stage, before) {
-        Some(cause) => Err(cause.at(line, Layer::Reading)),
-        None => Ok(stage),
-    }
+    check_next(&REVIEW_BOX, &stage, before).map_err(|cause| cause.at(line, Layer::Reading))?;
+    Ok(stage)
 }
 
 // Reads stage lines, from line 2 on, up to the end of the sheet.

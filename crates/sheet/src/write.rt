@@ -1,13 +1,12 @@
 // Writing a sheet.
-ghost use Rattle.std.specs.Prelude.{◌≡◌, ◌↔◌, ◌++◌, Ok};
+ghost use Rattle.std.specs.Prelude.{◌≡◌, ◌↔◌, Ok};
 ghost use Rattle.std.specs.List.{flat_map};
 ghost use Rattle.model.specs.Limits.{review_box};
 ghost use Rattle.model.specs.declared.fault.Layer.{Layer};
 ghost use Rattle.model.specs.Lawful.{Lawful};
 ghost use Rattle.model.specs.Tables.{check_of};
 ghost use Rattle.writing.specs.Pages.{page_answer, page_after};
-ghost use Rattle.writing.specs.Room.{cut};
-ghost use Rattle.writing.specs.Texts.{text_of};
+ghost use Rattle.writing.specs.Texts.{Adds};
 ghost use Rattle.sheet.specs.Printed.{cores_text, stage_text, sheet_of, page_of};
 ghost use Rattle.sheet.specs.Exact.{WritesBack, Accepted, Longest};
 
@@ -25,7 +24,7 @@ pub const LONGEST_SHEET: usize = 3146;
 // Adds the line of the core count.
 #[tactic(auto, using(writing::proofs::Texts::pieces), unfolding(crate::specs::Printed::cores_text))]
 fn put_cores(text: &mut Text, cores: usize)
-    ensures { text_of text.new ≡ cut (text_of text.old ++ cores_text cores) }
+    ensures { Adds text.old (cores_text cores) text.new }
 {
     text.put(b"(cores ");
     text.put_number(cores);
@@ -35,7 +34,7 @@ fn put_cores(text: &mut Text, cores: usize)
 // Adds the line of a stage.
 #[tactic(auto, using(writing::proofs::Texts::pieces), unfolding(crate::specs::Printed::stage_text))]
 fn put_stage(text: &mut Text, stage: &Stage)
-    ensures { text_of text.new ≡ cut (text_of text.old ++ stage_text stage.now) }
+    ensures { Adds text.old (stage_text stage.now) text.new }
 {
     text.put(b"(stage ");
     text.put(word(&stage.name));
@@ -48,7 +47,7 @@ fn put_stage(text: &mut Text, stage: &Stage)
 
 // Adds the lines of the stages, in their order.
 fn put_stages(text: &mut Text, table: &[Stage])
-    ensures { text_of text.new ≡ cut (text_of text.old ++ flat_map stage_text table.now) }
+    ensures { Adds text.old (flat_map stage_text table.now) text.new }
 {
     for stage in table {
         put_stage(text, stage);

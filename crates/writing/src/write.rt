@@ -1,7 +1,6 @@
 // Composing a text.
-ghost use Rattle.std.specs.Prelude.{◌≡◌, [], ◌++◌, decimal};
-ghost use Rattle.writing.specs.Room.{cut};
-ghost use Rattle.writing.specs.Texts.{text_of};
+ghost use Rattle.std.specs.Prelude.{◌≡◌, [], decimal};
+ghost use Rattle.writing.specs.Texts.{text_of, Adds};
 
 use crate::text::Text;
 use arrayvec::ArrayVec;
@@ -19,7 +18,7 @@ impl Text {
 
     // Adds these bytes, as far as there is room.
     pub fn put(&mut self, bytes: &[u8])
-        ensures { text_of self.new ≡ cut (text_of self.old ++ bytes.now) }
+        ensures { Adds self.old bytes.now self.new }
     {
         let count = bytes.len().min(self.bytes.remaining_capacity());
         self.bytes.try_extend_from_slice(&bytes[..count]).unwrap();
@@ -27,7 +26,7 @@ impl Text {
 
     // Adds a number in base ten, as far as there is room.
     pub fn put_number(&mut self, n: usize)
-        ensures { text_of self.new ≡ cut (text_of self.old ++ decimal n) }
+        ensures { Adds self.old (decimal n) self.new }
     {
         self.put(Buffer::new().format(n).as_bytes());
     }

@@ -1,8 +1,8 @@
 // What has a text, and writing it into a page that the caller owns.
-ghost use Rattle.std.specs.Prelude.{◌≡◌, ◌≤◌, ℕ, List, ◌++◌, length, Ok};
+ghost use Rattle.std.specs.Prelude.{◌≡◌, ◌≤◌, ℕ, List, length, Ok};
 ghost use Rattle.writing.specs.Pages.{page_answer, page_after};
-ghost use Rattle.writing.specs.Room.{room, cut};
-ghost use Rattle.writing.specs.Texts.{text_of};
+ghost use Rattle.writing.specs.Room.{room};
+ghost use Rattle.writing.specs.Texts.{Adds};
 
 use crate::text::Text;
 use model::fault::Fault;
@@ -15,7 +15,7 @@ pub trait Written {
 
     // Adds its text, which a text that is empty has room for.
     fn put(&self, onto: &mut Text)
-        ensures added { text_of onto.new ≡ cut (text_of onto.old ++ text self.now) }
+        ensures added { Adds onto.old (text self.now) onto.new }
         ensures fits { length (text self.now) ≤ room };
 }
 
