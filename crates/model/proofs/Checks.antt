@@ -5,6 +5,7 @@ use Rattle.std.specs.List.{prefix_len}
 use Rattle.std.proofs.lemmas.List.{at_drop_more, at_drop_all, take_more, length-take-le, drop_at}
 use Rattle.std.proofs.lemmas.List.Sums.{prefix_len-le-length}
 use Rattle.std.proofs.lemmas.Bool.{cases_Bool, cond-true, cond-false, and_parts, and_from, leb-true, le-leb, eqb-true, eq-eqb, false≢true}
+use Rattle.std.proofs.lemmas.Option.{none-some}
 use Rattle.model.specs.declared.fault.Cause.{Cause}
 use Rattle.model.specs.declared.fault.Fault.{Fault}
 use Rattle.model.specs.declared.fault.Layer.{Layer}
@@ -39,10 +40,8 @@ bad_step lim xs i lt =
     at_drop_more (first_bad lim (take i xs)) xs i no_stage lt
     ∙ ap₂ (λ l k. cond (follows lim (stage xs i) (take i xs)) (first_bad lim l (drop (i + 1) xs)) (Some (k + 1))) (sym (take_more xs i no_stage lt)) (length-take-le i xs (omega arith))
 
-some_none : {X : Type 0} {x : X} → Some x ≡ None → ⊥
-some_none e = let z : ◌≡◌ {A = ℕ} 0 1 = cc in omega arith
-
-err_ok : {X Y : Type 0} {x : Y} {y : X} → ◌≡◌ {A = Result X Y} (Err x) (Ok y) → ⊥
+-- no refusal is an answer
+pub err_ok : {X Y : Type 0} {x : Y} {y : X} → ◌≡◌ {A = Result X Y} (Err x) (Ok y) → ⊥
 err_ok e = let z : ◌≡◌ {A = ℕ} 0 1 = cc in omega arith
 
 zero_tail : (bs : List ℕ) → all_zero bs ≡ true → bs ≡ replicate (length bs) 0
@@ -111,7 +110,7 @@ good_from lim [] before h = tt
 good_from lim (s ∷ ss) before h =
     ⊎_elim
     (λ t. let f = follows_parts lim s before t in (f.0, f.1, good_from lim ss (before ++ s ∷ []) (sym (bad_more lim before s ss t) ∙ h)))
-    (λ t. absurd (some_none (sym (bad_here lim before s ss t) ∙ h)))
+    (λ t. absurd (none-some _ (sym h ∙ bad_here lim before s ss t)))
     (cases_Bool (follows lim s before))
 
 good_to : (lim : Limits) (ss before : List Stage) → Follows lim before ss → first_bad lim before ss ≡ None

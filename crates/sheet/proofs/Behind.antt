@@ -8,15 +8,13 @@ use Rattle.model.specs.declared.stage.Stage.{Stage}
 use Rattle.model.specs.Limits.{review_box, cores_allowed}
 use Rattle.model.specs.Tables.{breach_of}
 use Rattle.model.specs.Lawful.{Lawful, LawfulTable}
+use Rattle.model.proofs.Checks.{err_ok}
 use Rattle.model.proofs.Tables.{Follows, follows_to, none_lawful}
 use Rattle.sheet.specs.Faults.{reading}
 use Rattle.sheet.specs.Forms.{cores_of, stage_of, formed}
 use Rattle.sheet.specs.Sheets.{judged, ruled, line_of, stages_from, some_stage, finished, headed, read_of}
 use Rattle.sheet.specs.Printed.{stage_text, cores_text, sheet_of}
 use Rattle.sheet.proofs.Back.{cores_back, stage_back}
-
-pub err_ok : {X Y : Type 0} {x : X} {y : Y} → Err y ≡ Ok x → ⊥
-err_ok e = let z : ◌≡◌ {A = ℕ} 0 1 = cc in omega arith
 
 pub ok_is : {X Y : Type 0} {x y : X} → ◌≡◌ {A = Result X Y} (Ok x) (Ok y) → x ≡ y
 ok_is e = cc

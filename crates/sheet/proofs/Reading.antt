@@ -5,10 +5,11 @@ use Rattle.std.proofs.lemmas.Bool.{cond-true, le-leb}
 use Rattle.model.specs.declared.fault.Fault.{Fault}
 use Rattle.model.specs.declared.stage.Stage.{Stage}
 use Rattle.model.specs.Limits.{review_box}
+use Rattle.model.proofs.Checks.{err_ok}
 use Rattle.sheet.specs.declared.read.Counts.{Counts}
 use Rattle.sheet.specs.Sheets.{read_of, counted, stored, answer_of, table_of}
 use Rattle.sheet.specs.Exact.{SheetOf, ReadsExactly}
-use Rattle.sheet.proofs.Behind.{err_ok, ok_is, read_back}
+use Rattle.sheet.proofs.Behind.{ok_is, read_back}
 use Rattle.sheet.proofs.Forth.{read_forth}
 
 found : (text : List ℕ) (table : List Stage) (m n : ℕ) (o : Result (ℕ × List Stage) Fault) → read_of text ≡ o → counted o ≡ Ok (record { cores = m; stages = n }) → SheetOf text (stored o table) m n

@@ -10,11 +10,11 @@ use Rattle.model.specs.Faults.{fault, cause_number}
 use Rattle.model.specs.Limits.{review_box, cores_allowed, stages_allowed}
 use Rattle.model.specs.Tables.{first_bad, check_of}
 use Rattle.model.specs.Lawful.{Lawful}
-use Rattle.model.proofs.Checks.{answers_exactly}
+use Rattle.model.proofs.Checks.{err_ok, answers_exactly}
 use Rattle.writing.specs.Pages.{onto, page_answer, page_after}
 use Rattle.sheet.specs.Printed.{sheet_of, page_of}
 use Rattle.sheet.specs.Exact.{WritesBack, Accepted, Longest}
-use Rattle.sheet.proofs.Behind.{err_ok, ok_is}
+use Rattle.sheet.proofs.Behind.{ok_is}
 use Rattle.sheet.proofs.Forth.{read_forth}
 use Rattle.sheet.proofs.Lengths.{sheet_short, longest_reached}
 
