@@ -23,39 +23,31 @@ fn opened() -> Result<Run, Fault> {
     Ok(Run::open(plan))
 }
 
-fn ended(rt: &impl Abort, run: &mut Run, stage: usize, number: u8) -> Result<(), Fail> {
-    match run.end(stage) {
-        Ok(()) => {
-            assert_eq!(rt; 0, number);
-            Ok(())
-        },
-        Err(why) => {
-            assert_eq!(rt; why.place, stage);
-            assert_eq!(rt; u8::from(why.cause), number);
-            Ok(())
-        }
-    }
+// Ending the stage is refused with this number, at the stage.
+fn not_ended(rt: &impl Abort, run: &mut Run, stage: usize, number: u8) -> Result<(), Fail> {
+    let Err(why) = run.end(stage) else {
+        return Err(Fail::new("ended"));
+    };
+    assert_eq!(rt; why.place, stage);
+    assert_eq!(rt; u8::from(why.cause), number);
+    Ok(())
 }
 
 #[test]
 fn ends_before_the_first_tick(rt: HostRuntime) -> Result<(), Fail> {
-    let Ok(mut run) = opened() else {
-        return Err(Fail::new("not opened"));
-    };
-    ended(&rt, &mut run, 1, 0)?;
-    ended(&rt, &mut run, 2, 0)?;
+    let mut run = opened()?;
+    assert_eq!(rt; run.end(1), Ok(()));
+    assert_eq!(rt; run.end(2), Ok(()));
     assert_eq!(rt; run.tick(), [3, 4, 0, 0, 0, 0, 0, 0]);
-    ended(&rt, &mut run, 1, 32)?;
-    ended(&rt, &mut run, 0, 31)?;
-    ended(&rt, &mut run, 5, 31)?;
-    ended(&rt, &mut run, usize::MAX, 31)
+    not_ended(&rt, &mut run, 1, 32)?;
+    not_ended(&rt, &mut run, 0, 31)?;
+    not_ended(&rt, &mut run, 5, 31)?;
+    not_ended(&rt, &mut run, usize::MAX, 31)
 }
 
 #[test]
 fn looks(rt: HostRuntime) -> Result<(), Fail> {
-    let Ok(mut run) = opened() else {
-        return Err(Fail::new("not opened"));
-    };
+    let mut run = opened()?;
     let _ = run.tick();
     let spent = State {
         age: 1,
@@ -73,7 +65,7 @@ fn looks(rt: HostRuntime) -> Result<(), Fail> {
 fn empty_plan(rt: HostRuntime) -> Result<(), Fail> {
     let mut run = Run::open(Plan::empty());
     assert_eq!(rt; run.tick(), [0; 8]);
-    ended(&rt, &mut run, 1, 31)?;
+    not_ended(&rt, &mut run, 1, 31)?;
     assert_eq!(rt; run.look(0), Err(Cause::NoSuchStage.at(0, Layer::Running)));
     let plan = run.close();
     assert_eq!(rt; plan.cores(), 0);
