@@ -1,9 +1,9 @@
 -- Whom each core takes in a tick.
-use Rattle.std.proofs.Common.{◌≡◌, ℕ, zero, suc, ◌+◌, ◌-◌, ◌<◌, ◌≤◌, Bool, true, false, cond, not, ◌&&◌, eqb, ltb, List, [], ◌∷◌, ◌++◌, length, get_or, replicate, sym, refl, ap, ◌∙◌, subst, ap₂, ⊎_elim, arith}
+use Rattle.std.proofs.Common.{◌≡◌, ℕ, zero, suc, ◌+◌, ◌-◌, ◌<◌, ◌≤◌, Bool, true, false, cond, not, ◌&&◌, eqb, ltb, List, [], ◌∷◌, ◌++◌, length, get_or, replicate, sym, refl, ap, ◌∙◌, subst, ap₂, ⊎_elim, arith, length-append}
 use mathlib.Core.Path.{fun_ext}
-use lib.ListN.{get_or-eq_default}
+use lib.ListN.{length-replicate, get_or-eq_default}
+use Rattle.std.proofs.lemmas.Bool.{eq-eqb, ne_eqb, eqb-true, and_parts, and_right, le-ltb, not-true, both_ways, false≢true, cases_lt, cases_eq}
 use Rattle.std.proofs.lemmas.Bool.Decides.{nat_tests}
-use Rattle.std.proofs.lemmas.Bool.{eq-eqb, ne_eqb, eqb-true, and_parts, and_right, le-ltb, not-true, both_ways, cases_lt, cases_eq}
 use Rattle.rules.specs.Timing.{some_before}
 use Rattle.placing.specs.declared.placement.Placement.{Placement}
 use Rattle.dispatch.specs.declared.state.State.{State}
@@ -79,11 +79,23 @@ pick_is j prev n (p ∷ ps) (s ∷ ss) pos (suc i) =
         let place : n + suc i ≡ suc n + i = omega arith in
         ap (eqb (pick j prev (suc n) ps ss)) place ∙ h ∙ ap (λ q. q i && not (some_before q i)) shift ∙ ap (λ b. fits j prev n (p ∷ ps) (s ∷ ss) (suc i) && not b) (sym none)
 
--- the pick is among the stages that are there
+-- the pick is among the stages that are there, and no later than a stage that qualifies
 pick_most : (j prev n : ℕ) (ps : List Placement) (ss : List State) → pick j prev (suc n) ps ss ≤ n + length ps
 pick_most j prev n [] ss = omega arith
 pick_most j prev n (p ∷ ps) [] = omega arith
 pick_most j prev n (p ∷ ps) (s ∷ ss) = let later = pick_most j prev (suc n) ps ss in grind (arith, nat_tests)
+
+pick_range : (j prev n : ℕ) (ps : List Placement) (ss : List State) (i : ℕ) → fits j prev n ps ss i ≡ true → (n ≤ pick j prev n ps ss) × (pick j prev n ps ss ≤ n + i)
+pick_range j prev n [] ss i h = absurd (both_ways (wants no_placement (state_of ss i) j) (none_wants (state_of ss i) j) (and_parts (wants no_placement (state_of ss i) j) (not (eqb (n + i) prev)) h).0)
+pick_range j prev n (p ∷ ps) [] i h = absurd (false≢true h)
+pick_range j prev n (p ∷ ps) (s ∷ ss) zero h = go (wants p s j && not (eqb n prev)) refl
+  where
+    go : (b : Bool) → (wants p s j && not (eqb n prev)) ≡ b → (n ≤ cond b n (pick j prev (suc n) ps ss)) × (cond b n (pick j prev (suc n) ps ss) ≤ n + 0)
+    go true e = (omega arith, omega arith)
+    go false e = absurd (false≢true (sym e ∙ subst (λ x. (wants p s j && not (eqb x prev)) ≡ true) {x = n + 0} {y = n} (omega arith) h))
+pick_range j prev n (p ∷ ps) (s ∷ ss) (suc i) h =
+    let later = pick_range j prev (suc n) ps ss i (subst (λ x. (wants (at ps i) (state_of ss i) j && not (eqb x prev)) ≡ true) {x = n + suc i} {y = suc n + i} (omega arith) h) in
+    (grind (arith, nat_tests), grind (arith, nat_tests))
 
 picks_length : (n j prev : ℕ) (ps : List Placement) (ss : List State) → length (picks n j prev ps ss) ≡ n
 picks_length zero j prev ps ss = refl
@@ -120,11 +132,14 @@ bare_pick zero ps ss k lt = absurd (omega arith)
 bare_pick (suc n) ps ss zero lt = refl
 bare_pick (suc n) ps ss (suc k) lt = picks_next (suc n) 1 0 ps ss k lt ∙ ap (λ x. pick x (taken_on (picks (suc n) 1 0 ps ss) (suc k)) 1 ps ss) {x = suc (1 + k)} {y = suc (suc k)} (omega arith)
 
-took_pick : (cores : ℕ) (ps : List Placement) (ss : List State) (k : ℕ) → k < cores → took cores ps ss (suc k) ≡ pick (suc k) (took cores ps ss k) 1 ps ss
+pub took_pick : (cores : ℕ) (ps : List Placement) (ss : List State) (k : ℕ) → k < cores → took cores ps ss (suc k) ≡ pick (suc k) (took cores ps ss k) 1 ps ss
 took_pick cores ps ss k lt = took_bare cores ps ss (suc k) ∙ bare_pick cores ps ss k lt ∙ ap (λ x. pick (suc k) x 1 ps ss) (sym (took_bare cores ps ss k))
 
-took_none : (cores : ℕ) (ps : List Placement) (ss : List State) (k : ℕ) → cores ≤ k → took cores ps ss (suc k) ≡ 0
+pub took_none : (cores : ℕ) (ps : List Placement) (ss : List State) (k : ℕ) → cores ≤ k → took cores ps ss (suc k) ≡ 0
 took_none cores ps ss k le = took_bare cores ps ss (suc k) ∙ get_or-eq_default (picks cores 1 0 ps ss) 0 {n = k} (omega (arith, picks_length cores 1 0 ps ss))
+
+pub answer_length : (cores : ℕ) (ps : List Placement) (ss : List State) → cores ≤ 8 → length (answer_of cores ps ss) ≡ 8
+answer_length cores ps ss le = omega (arith, length-append (picks cores 1 0 ps ss) (replicate (8 - cores) 0), picks_length cores 1 0 ps ss, length-replicate {A = ℕ} (8 - cores) 0)
 
 pub took_most : (cores : ℕ) (ps : List Placement) (ss : List State) (j : ℕ) → took cores ps ss j ≤ length ps
 took_most cores ps ss zero = omega arith
@@ -138,13 +153,22 @@ free cores ps ss k i = wants (at ps i) (state_of ss i) (suc k) && not (eqb (took
 eqb_turn : (a b : ℕ) → eqb a b ≡ eqb b a
 eqb_turn a b = ⊎_elim (λ q. eq-eqb a b q ∙ sym (eq-eqb b a (sym q))) (λ q. ne_eqb a b q ∙ sym (ne_eqb b a (λ r. q (sym r)))) (cases_eq a b)
 
+qualifies : (cores : ℕ) (ps : List Placement) (ss : List State) (k : ℕ) → fits (suc k) (took cores ps ss k) 1 ps ss ≡ free cores ps ss k
+qualifies cores ps ss k = fun_ext (λ x. ap (λ b. wants (at ps x) (state_of ss x) (suc k) && not b) (ap (λ y. eqb y (took cores ps ss k)) {x = 1 + x} {y = suc x} (omega arith) ∙ eqb_turn (suc x) (took cores ps ss k)))
+
 pub took_is : (cores : ℕ) (ps : List Placement) (ss : List State) (k : ℕ) → k < cores → (i : ℕ) → eqb (took cores ps ss (suc k)) (suc i) ≡ (free cores ps ss k i && not (some_before (free cores ps ss k) i))
 took_is cores ps ss k lt i =
-    let shift : fits (suc k) (took cores ps ss k) 1 ps ss ≡ free cores ps ss k = fun_ext (λ x. ap (λ b. wants (at ps x) (state_of ss x) (suc k) && not b) (ap (λ y. eqb y (took cores ps ss k)) {x = 1 + x} {y = suc x} (omega arith) ∙ eqb_turn (suc x) (took cores ps ss k))) in
     let place : suc i ≡ 1 + i = omega arith in
-    ap₂ eqb (took_pick cores ps ss k lt) place ∙ pick_is (suc k) (took cores ps ss k) 1 ps ss (omega arith) i ∙ ap (λ q. q i && not (some_before q i)) shift
+    ap₂ eqb (took_pick cores ps ss k lt) place ∙ pick_is (suc k) (took cores ps ss k) 1 ps ss (omega arith) i ∙ ap (λ q. q i && not (some_before q i)) (qualifies cores ps ss k)
 
-took_free : (cores : ℕ) (ps : List Placement) (ss : List State) (k i : ℕ) → eqb (took cores ps ss (suc k)) (suc i) ≡ true → free cores ps ss k i ≡ true
+-- a core takes no later stage than one that qualifies
+pub took_range : (cores : ℕ) (ps : List Placement) (ss : List State) (k i : ℕ) → k < cores → free cores ps ss k i ≡ true → (1 ≤ took cores ps ss (suc k)) × (took cores ps ss (suc k) ≤ suc i)
+took_range cores ps ss k i lt h =
+    let r = pick_range (suc k) (took cores ps ss k) 1 ps ss i (ap (λ q. q i) (qualifies cores ps ss k) ∙ h) in
+    let e = took_pick cores ps ss k lt in
+    (omega arith, omega arith)
+
+pub took_free : (cores : ℕ) (ps : List Placement) (ss : List State) (k i : ℕ) → eqb (took cores ps ss (suc k)) (suc i) ≡ true → free cores ps ss k i ≡ true
 took_free cores ps ss k i h =
     ⊎_elim
     (λ lt. (and_parts (free cores ps ss k i) (not (some_before (free cores ps ss k) i)) (sym (took_is cores ps ss k lt i) ∙ h)).0)

@@ -13,7 +13,7 @@ use Rattle.dispatch.specs.Jobs.{is_open, moved_by}
 use Rattle.dispatch.specs.Ticks.{no_state, one_if, served, grown, after_tick, fresh_state}
 use Rattle.dispatch.specs.Ends.{is_stage, state_at, refusal, ended, end_answer, after_end, look_answer}
 use Rattle.placing.specs.Sound.{Sound}
-use Rattle.dispatch.specs.Bounds.{InBounds, Within, Small}
+use Rattle.dispatch.specs.Bounds.{InBounds, Within}
 use Rattle.dispatch.proofs.Choice.{at, state_of, took, took_wants}
 use Rattle.dispatch.proofs.Opens.{is_open_true, none_true}
 use Rattle.dispatch.proofs.Rows.{ticked_row}
@@ -24,13 +24,6 @@ pub within_zeros : (cores : ℕ) (plan : List Placement) → Sound cores plan �
 within_zeros cores plan sound few job i lt =
     let s = (sound.each i lt).period_least in
     subst (λ s. InBounds (at plan i) s) (sym (get_or-replicate 64 i (record { age = 0; first = 0; second = 0; job = job }) no_state (omega arith))) (omega arith, omega arith, omega arith)
-
--- what is within its bounds can grow by one
-pub within_small : (cores : ℕ) (plan : List Placement) (ss : List State) → Sound cores plan → Within plan ss → (i : ℕ) → i < length plan → Small (state_of ss i)
-within_small cores plan ss sound within i lt =
-    let p = sound.each i lt in
-    let w = within i lt in
-    record { age = omega (arith, w.0, p.period_most); first = omega (arith, w.1, p.parts, p.cost_most, p.period_most); second = omega (arith, w.2, p.parts, p.cost_most, p.period_most) }
 
 bounded : (b : Bool) (x m : ℕ) → (b ≡ true → x < m) → x ≤ m → x + one_if b ≤ m
 bounded true x m h le = omega (arith, h refl)

@@ -9,7 +9,7 @@ ghost use Rattle.dispatch.specs.Ends.{end_answer, after_end, look_answer};
 
 use crate::job::{Event, Job};
 use crate::state::State;
-use crate::tick::{answer, step_all};
+use crate::tick::take_turns;
 use model::fault::{Cause, Fault, Layer};
 use model::limits::{MOST_CORES, MOST_STAGES};
 use placing::plan::Plan;
@@ -65,9 +65,9 @@ impl Run {
         ensures plan { self.new.plan ≡ self.old.plan }
         ensures states { self.new.states ≡ after_tick self.old.plan.cores (placements_of self.old.plan) self.old.states }
     {
-        let all = answer(self.plan.placements(), &self.states, self.plan.cores());
-        step_all(&all, self.plan.placements(), &mut self.states);
-        all
+        let mut row = [0; MOST_CORES];
+        take_turns(self.plan.placements(), &mut self.states, &mut row);
+        row
     }
 
     // Ends the open job of a stage.

@@ -1,152 +1,80 @@
-// The parts of a tick, over placements and states.
-ghost use Rattle.std.specs.Prelude.{◌≡◌, ℕ, suc, ◌+◌, ◌-◌, ◌<◌, ◌≤◌, not, ◌&&◌, List, [], ◌∷◌, length, ◌==◌, slice_index_or};
+// The parts of a tick: one walk along the stages, in the order of their numbers.
+ghost use Rattle.std.specs.Prelude.{◌≡◌, ℕ, ◌<◌, ◌≤◌, length, replicate, slice_index_or};
 ghost use Rattle.model.specs.Limits.{review_box};
-ghost use Rattle.dispatch.specs.Ticks.{no_state, wants as wants_tick, pick, answer_of, taken_on, served as served_state, grown as grown_state, step as stepped_state, stepped};
-ghost use Rattle.dispatch.specs.Bounds.{Small};
+ghost use Rattle.placing.specs.Placements.{no_placement};
+ghost use Rattle.placing.specs.Sound.{SoundPlacement};
+ghost use Rattle.dispatch.specs.Ticks.{grown, answer_of, after_tick};
+ghost use Rattle.dispatch.specs.Walk.{served_after, state_after, row_after};
+ghost use Rattle.dispatch.specs.Bounds.{InBounds, Within};
 
 use crate::job::{Event, Job};
 use crate::state::State;
 use model::limits::MOST_CORES;
 use placing::placement::Placement;
 
-// Whether a stage has an open job, and some of its share on the core not yet given.
-pub(crate) fn wants(p: &Placement, s: &State, core: usize) -> bool
-    ensures { result ≡ wants_tick p.now s.now core }
+// Gives the stage of this number a tick on its first core or else on its second, if its job is open, some of
+// its share there is not yet given, and no stage before it took the core. `row` has what each core took so far.
+fn serve(number: u8, placement: &Placement, state: &mut State, row: &mut [u8; MOST_CORES])
+    requires sound_placement { SoundPlacement review_box.cores placement.now }
+    requires in_bounds { InBounds placement.now state.old }
+    ensures state { state.new ≡ served_after placement.now state.old row.old }
+    ensures row { row.new ≡ row_after number placement.now state.old row.old }
 {
-    let Job::Open = s.job else {
-        return false;
+    let Job::Open = state.job else {
+        return;
     };
-    if core == p.core {
-        s.first < p.first
-    } else if p.core < core && core - p.core == 1 {
-        s.second < p.second
+    let core = placement.core;
+    if state.first < placement.first && row[core - 1] == 0 {
+        row[core - 1] = number;
+        state.first += 1;
+    } else if state.second < placement.second && row[core] == 0 {
+        row[core] = number;
+        state.second += 1;
     } else {
-        false
+        return;
     }
-}
-
-// Whether the core can take stage number k, the core before having taken stage number `over`.
-pub(crate) fn takes(p: &Placement, s: &State, core: usize, over: usize, k: usize) -> bool
-    ensures { result ≡ (wants_tick p.now s.now core && not (k == over)) }
-{
-    wants(p, s, core) && k != over
-}
-
-// The lowest-numbered stage that the core can take, or 0.
-pub(crate) fn choose(ps: &[Placement], ss: &[State], core: usize, over: usize) -> usize
-    requires { length ps.now ≤ length ss.now }
-    ensures picks { result ≡ pick core over 1 ps.now ss.now }
-    ensures small { result ≤ length ps.now }
-{
-    for i in 0..ps.len() {
-        if takes(&ps[i], &ss[i], core, over, i + 1) {
-            return i + 1;
-        }
-    }
-    0
-}
-
-// A stage after its service: on its first core, on its second, or on none.
-pub(crate) fn served(p: &Placement, s: &State, one: bool, two: bool) -> State
-    requires { Small s.now }
-    ensures { result ≡ served_state one two p.now s.now }
-{
-    let first = s.first + one as u32;
-    let second = s.second + two as u32;
-    let job = if one || two {
-        s.job.moved(Event::Served {
-            done: first + second == p.cost,
-        })
-    } else {
-        s.job
-    };
-    State {
-        age: s.age,
-        first,
-        second,
-        job,
-    }
+    state.job = state.job.moved(Event::Served {
+        done: state.first + state.second == placement.cost,
+    });
 }
 
 // A stage once the tick is over: a tick older, or released.
-pub(crate) fn grown(p: &Placement, s: &State) -> State
-    requires { s.now.age < review_box.longest }
-    ensures { result ≡ grown_state p.now s.now }
+fn grow(placement: &Placement, state: &mut State)
+    requires age_lt_period { state.old.age < placement.now.period }
+    requires period_le_longest { placement.now.period ≤ review_box.longest }
+    ensures { state.new ≡ grown placement.now state.old }
 {
-    if s.age + 1 == p.period {
-        State {
-            age: 0,
-            first: 0,
-            second: 0,
-            job: s.job.moved(Event::Released),
-        }
-    } else {
-        State {
-            age: s.age + 1,
-            first: s.first,
-            second: s.second,
-            job: s.job,
-        }
+    state.age += 1;
+    if state.age == placement.period {
+        state.age = 0;
+        state.first = 0;
+        state.second = 0;
+        state.job = state.job.moved(Event::Released);
     }
 }
 
-// What each core takes, core 1 first.
-pub(crate) fn answer(ps: &[Placement], ss: &[State], cores: usize) -> [u8; MOST_CORES]
-    requires beside { length ps.now ≤ length ss.now }
-    requires few { length ps.now ≤ review_box.stages }
-    requires narrow { cores ≤ review_box.cores }
-    ensures { result ≡ answer_of cores ps.now ss.now }
+// One stage's turn in a tick.
+fn take_turn(number: u8, placement: &Placement, state: &mut State, row: &mut [u8; MOST_CORES])
+    requires sound_placement { SoundPlacement review_box.cores placement.now }
+    requires in_bounds { InBounds placement.now state.old }
+    ensures state { state.new ≡ state_after placement.now state.old row.old }
+    ensures row { row.new ≡ row_after number placement.now state.old row.old }
 {
-    let mut all = [0; MOST_CORES];
-    let mut over = 0;
-    for j in 0..cores {
-        over = choose(ps, ss, j + 1, over);
-        all[j] = over as u8;
-    }
-    all
+    serve(number, placement, state, row);
+    grow(placement, state);
 }
 
-// The stage that the core after this one took.
-pub(crate) fn taken_after(all: &[u8; MOST_CORES], core: usize) -> usize
-    ensures { result ≡ taken_on all.now (suc core) }
+// All stages take their turns. `row` is all 0 at first, and then has what each core took, core 1 first.
+pub(crate) fn take_turns(placements: &[Placement], states: &mut [State], row: &mut [u8; MOST_CORES])
+    requires placements_len_bound { length placements.now ≤ review_box.stages }
+    requires placements_in_bounds { length placements.now ≤ length states.old }
+    requires by_index { (i : ℕ) → i < length placements.now → SoundPlacement review_box.cores (slice_index_or placements.now i no_placement) }
+    requires within { Within placements.now states.old }
+    requires row_value { row.old ≡ replicate review_box.cores 0 }
+    ensures row { row.new ≡ answer_of review_box.cores placements.now states.old }
+    ensures states { states.new ≡ after_tick review_box.cores placements.now states.old }
 {
-    if core < MOST_CORES {
-        all[core] as usize
-    } else {
-        0
-    }
-}
-
-// The stage that this core took. Cores are numbered from 1.
-pub(crate) fn taken_on(all: &[u8; MOST_CORES], core: usize) -> usize
-    ensures { result ≡ taken_on all.now core }
-{
-    if core == 0 {
-        0
-    } else {
-        taken_after(all, core - 1)
-    }
-}
-
-// Stage number k after a tick in which the cores took these stages.
-pub(crate) fn step(all: &[u8; MOST_CORES], k: usize, p: &Placement, s: &State) -> State
-    requires { Small s.now }
-    ensures { result ≡ stepped_state all.now k p.now s.now }
-{
-    let one = taken_on(all, p.core) == k;
-    let two = taken_after(all, p.core) == k;
-    let after = served(p, s, one, two);
-    grown(p, &after)
-}
-
-// Every stage after that tick.
-pub(crate) fn step_all(all: &[u8; MOST_CORES], ps: &[Placement], ss: &mut [State])
-    requires beside { length ps.now ≤ length ss.old }
-    requires small { (i : ℕ) → i < length ps.now → Small (slice_index_or ss.old i no_state) }
-    ensures { ss.new ≡ stepped all.now 1 ps.now ss.old }
-{
-    let count = ps.len();
-    for i in 0..count {
-        ss[i] = step(all, i + 1, &ps[i], &ss[i]);
+    for i in 0..placements.len() {
+        take_turn((i + 1) as u8, &placements[i], &mut states[i], row);
     }
 }
