@@ -5,7 +5,7 @@ ghost use Rattle.model.specs.Faults.{fault};
 ghost use Rattle.placing.specs.Plans.{placements_of};
 ghost use Rattle.dispatch.specs.Bounds.{Within};
 ghost use Rattle.dispatch.specs.Ticks.{answer_of, after_tick, fresh_states};
-ghost use Rattle.dispatch.specs.Ends.{end_answer, after_end, look_answer};
+ghost use Rattle.dispatch.specs.Ends.{index_answer, end_answer, after_end, look_answer};
 
 use crate::job::{Event, Job};
 use crate::state::State;
@@ -21,13 +21,6 @@ pub struct Run {
     states: [State; MOST_STAGES],
     ghost within: { Within (placements_of plan) states },
 }
-
-const FRESH: State = State {
-    age: 0,
-    first: 0,
-    second: 0,
-    job: Job::Open,
-};
 
 fn refusal(cause: Cause, stage: usize) -> Fault
     ensures { result ≡ fault cause stage Layer.Running }
@@ -47,7 +40,7 @@ impl Run {
     {
         Run {
             plan,
-            states: [FRESH; MOST_STAGES],
+            states: [State::default(); MOST_STAGES],
         }
     }
 
@@ -76,13 +69,11 @@ impl Run {
         ensures plan { self.new.plan ≡ self.old.plan }
         ensures states { self.new.states ≡ after_end stage (placements_of self.old.plan) self.old.states }
     {
-        if stage == 0 || stage > self.plan.placements().len() {
-            return Err(refusal(Cause::NoSuchStage, stage));
-        }
-        let Job::Open = self.states[stage - 1].job else {
+        let i = self.index_of(stage)?;
+        let Job::Open = self.states[i].job else {
             return Err(refusal(Cause::NotOpen, stage));
         };
-        self.states[stage - 1].job = Job::Open.moved(Event::Ended);
+        self.states[i].job = Job::Open.moved(Event::Ended);
         Ok(())
     }
 
@@ -90,9 +81,17 @@ impl Run {
     pub fn look(&self, stage: usize) -> Result<State, Fault>
         ensures { result ≡ look_answer stage (placements_of self.now.plan) self.now.states }
     {
+        let i = self.index_of(stage)?;
+        Ok(self.states[i])
+    }
+
+    // Where a stage's state stands, if there is such a stage. Stages are numbered from 1.
+    fn index_of(&self, stage: usize) -> Result<usize, Fault>
+        ensures { result ≡ index_answer stage (placements_of self.now.plan) }
+    {
         if stage == 0 || stage > self.plan.placements().len() {
             return Err(refusal(Cause::NoSuchStage, stage));
         }
-        Ok(self.states[stage - 1])
+        Ok(stage - 1)
     }
 }

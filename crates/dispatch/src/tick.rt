@@ -15,8 +15,8 @@ use placing::placement::Placement;
 // Gives the stage of this number a tick on its first core or else on its second, if its job is open, some of
 // its share there is not yet given, and no stage before it took the core. `row` has what each core took so far.
 fn serve(number: u8, placement: &Placement, state: &mut State, row: &mut [u8; MOST_CORES])
-    requires sound_placement { SoundPlacement review_box.cores placement.now }
-    requires in_bounds { InBounds placement.now state.old }
+    requires sound { SoundPlacement review_box.cores placement.now }
+    requires within { InBounds placement.now state.old }
     ensures state { state.new ≡ served_after placement.now state.old row.old }
     ensures row { row.new ≡ row_after number placement.now state.old row.old }
 {
@@ -40,8 +40,8 @@ fn serve(number: u8, placement: &Placement, state: &mut State, row: &mut [u8; MO
 
 // A stage once the tick is over: a tick older, or released.
 fn grow(placement: &Placement, state: &mut State)
-    requires age_lt_period { state.old.age < placement.now.period }
-    requires period_le_longest { placement.now.period ≤ review_box.longest }
+    requires young { state.old.age < placement.now.period }
+    requires short { placement.now.period ≤ review_box.longest }
     ensures { state.new ≡ grown placement.now state.old }
 {
     state.age += 1;
@@ -55,8 +55,8 @@ fn grow(placement: &Placement, state: &mut State)
 
 // One stage's turn in a tick.
 fn take_turn(number: u8, placement: &Placement, state: &mut State, row: &mut [u8; MOST_CORES])
-    requires sound_placement { SoundPlacement review_box.cores placement.now }
-    requires in_bounds { InBounds placement.now state.old }
+    requires sound { SoundPlacement review_box.cores placement.now }
+    requires within { InBounds placement.now state.old }
     ensures state { state.new ≡ state_after placement.now state.old row.old }
     ensures row { row.new ≡ row_after number placement.now state.old row.old }
 {
@@ -66,11 +66,11 @@ fn take_turn(number: u8, placement: &Placement, state: &mut State, row: &mut [u8
 
 // All stages take their turns. `row` is all 0 at first, and then has what each core took, core 1 first.
 pub(crate) fn take_turns(placements: &[Placement], states: &mut [State], row: &mut [u8; MOST_CORES])
-    requires placements_len_bound { length placements.now ≤ review_box.stages }
-    requires placements_in_bounds { length placements.now ≤ length states.old }
-    requires by_index { (i : ℕ) → i < length placements.now → SoundPlacement review_box.cores (slice_index_or placements.now i no_placement) }
+    requires few { length placements.now ≤ review_box.stages }
+    requires beside { length placements.now ≤ length states.old }
+    requires sound { (i : ℕ) → i < length placements.now → SoundPlacement review_box.cores (slice_index_or placements.now i no_placement) }
     requires within { Within placements.now states.old }
-    requires row_value { row.old ≡ replicate review_box.cores 0 }
+    requires idle { row.old ≡ replicate review_box.cores 0 }
     ensures row { row.new ≡ answer_of review_box.cores placements.now states.old }
     ensures states { states.new ≡ after_tick review_box.cores placements.now states.old }
 {

@@ -18,11 +18,11 @@ take_turns-requires c =
     let long : length (placements_of plan) ≤ length run.states = omega arith in
     let is = sym c.placements.ensures in
     record {
-      placements_len_bound = subst (λ (q : List Placement). length q ≤ 64) is few;
-      placements_in_bounds = subst (λ (q : List Placement). length q ≤ length run.states) is long;
-      by_index = subst (λ (q : List Placement). (i : ℕ) → i < length q → SoundPlacement 8 (at q i)) is (λ i lt. on_the_box plan.cores (at (placements_of plan) i) plan.narrow ((plan_sound plan).each i lt));
+      few = subst (λ (q : List Placement). length q ≤ 64) is few;
+      beside = subst (λ (q : List Placement). length q ≤ length run.states) is long;
+      sound = subst (λ (q : List Placement). (i : ℕ) → i < length q → SoundPlacement 8 (at q i)) is (λ i lt. on_the_box plan.cores (at (placements_of plan) i) plan.narrow ((plan_sound plan).each i lt));
       within = subst (λ (q : List Placement). Within q run.states) is run.within;
-      row_value = refl;
+      idle = refl;
     }
 
 pub invariant_of-self : goal.invariant_of-self
