@@ -19,11 +19,11 @@ use Rattle.dispatch.proofs.Opens.{is_open_true, none_true}
 use Rattle.dispatch.proofs.Rows.{ticked_row}
 use Rattle.dispatch.proofs.Wants.{wants_first, wants_second}
 
--- states that are all the fresh one
-pub within_fresh : (cores : ℕ) (plan : List Placement) (s : State) → Sound cores plan → length plan ≤ 64 → s ≡ fresh_state → Within plan (replicate 64 s)
-within_fresh cores plan s sound few is i lt =
+-- as many states as there can be stages, with nothing but zeros
+pub within_zeros : (cores : ℕ) (plan : List Placement) (s : State) → Sound cores plan → length plan ≤ 64 → (s.age ≡ 0) × (s.first ≡ 0) × (s.second ≡ 0) → Within plan (replicate 64 s)
+within_zeros cores plan s sound few zeros i lt =
     let low = (sound.each i lt).period_least in
-    subst (λ s. InBounds (at plan i) s) (sym (get_or-replicate 64 i s no_state (omega arith) ∙ is)) (omega arith, omega arith, omega arith)
+    subst (λ s. InBounds (at plan i) s) (sym (get_or-replicate 64 i s no_state (omega arith))) (omega arith, omega arith, omega arith)
 
 bounded : (b : Bool) (x m : ℕ) → (b ≡ true → x < m) → x ≤ m → x + one_if b ≤ m
 bounded true x m h le = omega (arith, h refl)

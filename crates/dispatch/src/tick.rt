@@ -12,56 +12,63 @@ use crate::state::State;
 use model::limits::MOST_CORES;
 use placing::placement::Placement;
 
-// Gives the stage of this number a tick on its first core or else on its second, if its job is open, some of
-// its share there is not yet given, and no stage before it took the core. `row` has what each core took so far.
-fn serve(number: u8, placement: &Placement, state: &mut State, row: &mut [u8; MOST_CORES])
-    requires sound { SoundPlacement review_box.cores placement.now }
-    requires within { InBounds placement.now state.old }
-    ensures state { state.new ≡ served_after placement.now state.old row.old }
-    ensures row { row.new ≡ row_after number placement.now state.old row.old }
-{
-    let Job::Open = state.job else {
-        return;
-    };
-    let core = placement.core;
-    if state.first < placement.first && row[core - 1] == 0 {
-        row[core - 1] = number;
-        state.first += 1;
-    } else if state.second < placement.second && row[core] == 0 {
-        row[core] = number;
-        state.second += 1;
-    } else {
-        return;
-    }
-    state.job = state.job.moved(Event::Served {
-        done: state.first + state.second == placement.cost,
-    });
+// A stage whose turn it is in a tick.
+#[derive(Drop)]
+struct Turn<'a> {
+    number: u8,
+    placement: &'a Placement,
+    ghost sound: { SoundPlacement review_box.cores placement.now },
 }
 
-// A stage once the tick is over: a tick older, or released.
-fn grow(placement: &Placement, state: &mut State)
-    requires young { state.old.age < placement.now.period }
-    requires short { placement.now.period ≤ review_box.longest }
-    ensures { state.new ≡ grown placement.now state.old }
-{
-    state.age += 1;
-    if state.age == placement.period {
-        state.age = 0;
-        state.first = 0;
-        state.second = 0;
-        state.job = state.job.moved(Event::Released);
+impl Turn<'_> {
+    // What the stage does in a tick: it is served or passed over, and the tick is over.
+    fn take(&self, state: &mut State, row: &mut [u8; MOST_CORES])
+        requires within { InBounds self.now.placement.now state.old }
+        ensures state { state.new ≡ state_after self.now.placement.now state.old row.old }
+        ensures row { row.new ≡ row_after self.now.number self.now.placement.now state.old row.old }
+    {
+        self.serve(state, row);
+        self.grow(state);
     }
-}
 
-// One stage's turn in a tick.
-fn take_turn(number: u8, placement: &Placement, state: &mut State, row: &mut [u8; MOST_CORES])
-    requires sound { SoundPlacement review_box.cores placement.now }
-    requires within { InBounds placement.now state.old }
-    ensures state { state.new ≡ state_after placement.now state.old row.old }
-    ensures row { row.new ≡ row_after number placement.now state.old row.old }
-{
-    serve(number, placement, state, row);
-    grow(placement, state);
+    // Gives the stage a tick on its first core or else on its second, if its job is open, some of its share
+    // there is not yet given, and no stage before it took the core. `row` has what each core took so far.
+    fn serve(&self, state: &mut State, row: &mut [u8; MOST_CORES])
+        requires within { InBounds self.now.placement.now state.old }
+        ensures state { state.new ≡ served_after self.now.placement.now state.old row.old }
+        ensures row { row.new ≡ row_after self.now.number self.now.placement.now state.old row.old }
+    {
+        let Job::Open = state.job else {
+            return;
+        };
+        let core = self.placement.core;
+        if state.first < self.placement.first && row[core - 1] == 0 {
+            row[core - 1] = self.number;
+            state.first += 1;
+        } else if state.second < self.placement.second && row[core] == 0 {
+            row[core] = self.number;
+            state.second += 1;
+        } else {
+            return;
+        }
+        state.job = state.job.moved(Event::Served {
+            done: state.first + state.second == self.placement.cost,
+        });
+    }
+
+    // The stage once the tick is over: a tick older, or released.
+    fn grow(&self, state: &mut State)
+        requires young { state.old.age < self.now.placement.now.period }
+        ensures { state.new ≡ grown self.now.placement.now state.old }
+    {
+        state.age += 1;
+        if state.age == self.placement.period {
+            state.age = 0;
+            state.first = 0;
+            state.second = 0;
+            state.job = state.job.moved(Event::Released);
+        }
+    }
 }
 
 // All stages take their turns. `row` is all 0 at first, and then has what each core took, core 1 first.
@@ -75,6 +82,10 @@ pub(crate) fn take_turns(placements: &[Placement], states: &mut [State], row: &m
     ensures states { states.new ≡ after_tick review_box.cores placements.now states.old }
 {
     for i in 0..placements.len() {
-        take_turn((i + 1) as u8, &placements[i], &mut states[i], row);
+        let turn = Turn {
+            number: (i + 1) as u8,
+            placement: &placements[i],
+        };
+        turn.take(&mut states[i], row);
     }
 }

@@ -7,12 +7,12 @@ use Rattle.dispatch.proofs.Tables.{as_before, as_before_more, stepped_more, step
 use Rattle.dispatch.proofs.Walk.{row_all, turned}
 use Rattle.dispatch.proofs.tick.take_turns.Goals as goal
 
-pub take_turn-requires : goal.take_turn-requires
-take_turn-requires c =
+pub take-requires : goal.take-requires
+take-requires c =
     let i = c.loop-i.i in
     let lt = c.loop-i-test.true in
     let here = as_before c.args.states.now c.loop-i.states i fresh_state (omega arith) c.loop-i.invariant.2 in
-    record { sound = c.requires.sound i lt; within = subst (λ s. InBounds (at c.args.placements.now i) s) (sym here) (c.requires.within i lt) }
+    record { within = subst (λ s. InBounds (at c.args.placements.now i) s) (sym here) (c.requires.within i lt) }
 
 pub loop-i-preserved : goal.loop-i-preserved
 loop-i-preserved c =
@@ -21,9 +21,9 @@ loop-i-preserved c =
     let i = c.loop-i.i in
     let lt = c.loop-i-test.true in
     let ss = c.loop-i.states in
-    let x = c.take_turn.new.state in
+    let x = c.take.new.state in
     let here = as_before before ss i fresh_state (omega arith) c.loop-i.invariant.2 in
-    let turn = turned ps before i c.loop-i.row (c.requires.sound i lt) c.loop-i.invariant.0 _ x c.take_turn.new.row here c.take_turn.ensures.state c.take_turn.ensures.row in
+    let turn = turned ps before i c.loop-i.row (c.requires.sound i lt) c.loop-i.invariant.0 _ x c.take.new.row here c.take.ensures.state c.take.ensures.row in
     (turn.0, c.loop-i.invariant.1 ∙ stepped_more (answer_of 8 ps before) ps ss i x no_placement fresh_state lt (omega arith) turn.1, as_before_more before ss i x c.loop-i.invariant.2)
 
 pub returns : goal.returns
