@@ -58,9 +58,7 @@ impl Run {
         ensures plan { self.new.plan ≡ self.old.plan }
         ensures states { self.new.states ≡ after_tick self.old.plan.cores (placements_of self.old.plan) self.old.states }
     {
-        let mut row = [0; MOST_CORES];
-        take_turns(self.plan.placements(), &mut self.states, &mut row);
-        row
+        take_turns(self.plan.placements(), &mut self.states)
     }
 
     // Ends the open job of a stage.

@@ -1,5 +1,5 @@
 // The parts of a tick: one walk along the stages, in the order of their numbers.
-ghost use Rattle.std.specs.Prelude.{◌≡◌, ℕ, ◌<◌, ◌≤◌, length, replicate, slice_index_or};
+ghost use Rattle.std.specs.Prelude.{◌≡◌, ℕ, ◌<◌, ◌≤◌, length, slice_index_or};
 ghost use Rattle.model.specs.Limits.{review_box};
 ghost use Rattle.placing.specs.Placements.{no_placement};
 ghost use Rattle.placing.specs.Sound.{SoundPlacement};
@@ -71,21 +71,22 @@ impl Turn<'_> {
     }
 }
 
-// All stages take their turns. `row` is all 0 at first, and then has what each core took, core 1 first.
-pub(crate) fn take_turns(placements: &[Placement], states: &mut [State], row: &mut [u8; MOST_CORES])
+// All stages take their turns. The answer is what each core took, core 1 first.
+pub(crate) fn take_turns(placements: &[Placement], states: &mut [State]) -> [u8; MOST_CORES]
     requires few { length placements.now ≤ review_box.stages }
     requires beside { length placements.now ≤ length states.old }
     requires sound { (i : ℕ) → i < length placements.now → SoundPlacement review_box.cores (slice_index_or placements.now i no_placement) }
     requires within { Within placements.now states.old }
-    requires idle { row.old ≡ replicate review_box.cores 0 }
-    ensures row { row.new ≡ answer_of review_box.cores placements.now states.old }
+    ensures row { result ≡ answer_of review_box.cores placements.now states.old }
     ensures states { states.new ≡ after_tick review_box.cores placements.now states.old }
 {
-    for i in 0..placements.len() {
+    let mut row = [0; MOST_CORES];
+    for (i, placement) in placements.iter().enumerate() {
         let turn = Turn {
             number: (i + 1) as u8,
-            placement: &placements[i],
+            placement,
         };
-        turn.take(&mut states[i], row);
+        turn.take(&mut states[i], &mut row);
     }
+    row
 }

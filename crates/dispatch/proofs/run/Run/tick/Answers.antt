@@ -22,7 +22,6 @@ take_turns-requires c =
       beside = subst (λ (q : List Placement). length q ≤ length run.states) is long;
       sound = subst (λ (q : List Placement). (i : ℕ) → i < length q → SoundPlacement 8 (at q i)) is (λ i lt. on_the_box plan.cores (at (placements_of plan) i) plan.narrow ((plan_sound plan).each i lt));
       within = subst (λ (q : List Placement). Within q run.states) is run.within;
-      idle = refl;
     }
 
 pub invariant_of-self : goal.invariant_of-self
