@@ -1,11 +1,16 @@
 -- Cores that a plan does not have are idle: a tick of the plan's cores is one of all eight.
-use Rattle.std.proofs.Common.{◌≡◌, ℕ, zero, suc, ◌<◌, ◌≤◌, true, List, length, sym, refl, ap, ◌∙◌, ⊎_elim, arith}
+use Rattle.std.proofs.Common.{◌≡◌, ℕ, zero, suc, ◌<◌, ◌≤◌, true, List, ◌+◌, ◌++◌, length, take, drop, sym, refl, ap, subst, ◌∙◌, ⊎_elim, arith}
 use Rattle.std.proofs.lemmas.List.{ext_get_or}
 use Rattle.std.proofs.lemmas.Bool.{eq-eqb, cases_lt}
 use Rattle.placing.specs.declared.placement.Placement.{Placement}
+use Rattle.placing.specs.declared.plan.Plan.{Plan}
+use Rattle.placing.specs.Plans.{placements_of}
+use Rattle.placing.proofs.SoundPlans.{plan_sound}
 use Rattle.placing.specs.Sound.{SoundPlacement, Sound}
 use Rattle.dispatch.specs.declared.state.State.{State}
 use Rattle.dispatch.specs.Ticks.{wants, pick, answer_of, stepped, after_tick}
+use Rattle.dispatch.proofs.Tables.{stepped_all}
+use Rattle.dispatch.proofs.Walk.{RowAt, row_all}
 use Rattle.dispatch.proofs.Wants.{wants_where, wants_second}
 use Rattle.dispatch.proofs.Choice.{at, state_of, took, took_pick, took_none, took_most, took_wants, answer_length}
 
@@ -23,6 +28,10 @@ on_the_box cores p narrow y =
       on_a_core = omega arith;
       next_too = λ more. omega (arith, y.next_too more);
     }
+
+-- a plan's placements, as they are lent
+pub plan_on_the_box : (plan : Plan) (ps : List Placement) → ps ≡ placements_of plan → (i : ℕ) → i < length ps → SoundPlacement 8 (at ps i)
+plan_on_the_box plan ps is i lt = on_the_box plan.cores (at ps i) plan.narrow ((subst (λ q. Sound plan.cores q) (sym is) (plan_sound plan)).each i lt)
 
 module _ (cores : ℕ) (ps : List Placement) (ss : List State) (narrow : cores ≤ 8) (sound : Sound cores ps) where
   -- no stage has a share on a core beyond the plan's
@@ -58,3 +67,11 @@ module _ (cores : ℕ) (ps : List Placement) (ss : List State) (narrow : cores �
 
   pub after_whole : after_tick 8 ps ss ≡ after_tick cores ps ss
   after_whole = ap (λ a. stepped a 1 ps ss) answer_whole
+
+-- a walk along all stages of a plan ends as the tick
+module _ (plan : Plan) (ps : List Placement) (ss : List State) where
+  pub row_end : (row : List ℕ) (i : ℕ) → ps ≡ placements_of plan → length ps ≤ i → RowAt ps ss i row → row ≡ answer_of plan.cores (placements_of plan) ss
+  row_end row i is le now = row_all ps ss i row le now ∙ ap (λ q. answer_of 8 q ss) is ∙ answer_whole plan.cores (placements_of plan) ss plan.narrow (plan_sound plan)
+
+  pub stepped_end : (left : List State) (i : ℕ) → ps ≡ placements_of plan → length ps ≤ i → stepped (answer_of 8 ps ss) 1 ps ss ≡ take i left ++ stepped (answer_of 8 ps ss) (i + 1) (drop i ps) (drop i left) → left ≡ after_tick plan.cores (placements_of plan) ss
+  stepped_end left i is le now = sym (now ∙ stepped_all (answer_of 8 ps ss) ps left i le) ∙ ap (λ q. after_tick 8 q ss) is ∙ after_whole plan.cores (placements_of plan) ss plan.narrow (plan_sound plan)

@@ -9,7 +9,7 @@ ghost use Rattle.dispatch.specs.Ends.{index_answer, end_answer, after_end, look_
 
 use crate::job::{Event, Job};
 use crate::state::State;
-use crate::tick::take_turns;
+use crate::turn::Turn;
 use model::fault::{Cause, Fault, Layer};
 use model::limits::{MOST_CORES, MOST_STAGES};
 use placing::plan::Plan;
@@ -58,7 +58,18 @@ impl Run {
         ensures plan { self.new.plan ≡ self.old.plan }
         ensures states { self.new.states ≡ after_tick self.old.plan.cores (placements_of self.old.plan) self.old.states }
     {
-        take_turns(self.plan.placements(), &mut self.states)
+        let mut row = [0; MOST_CORES];
+        let placements = self.plan.placements();
+        let states = &mut self.states;
+        for (i, placement) in placements.iter().enumerate() {
+            let turn = Turn {
+                number: (i + 1) as u8,
+                placement,
+            };
+            // by index: nothing is known of what an adapter of `iter_mut` leaves in the states
+            turn.take(&mut states[i], &mut row);
+        }
+        row
     }
 
     // Ends the open job of a stage.

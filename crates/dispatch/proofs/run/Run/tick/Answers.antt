@@ -1,27 +1,47 @@
-use Rattle.std.proofs.Common.{ℕ, ◌<◌, ◌≤◌, List, length, sym, refl, ap, ◌∙◌, subst, arith}
-use Rattle.placing.specs.declared.placement.Placement.{Placement}
+use Rattle.std.proofs.Common.{◌≤◌, length, length-set, sym, refl, ◌∙◌, subst, arith}
 use Rattle.placing.specs.Plans.{placements_of}
-use Rattle.placing.specs.Sound.{SoundPlacement}
+use Rattle.placing.specs.Placements.{no_placement}
 use Rattle.placing.proofs.SoundPlans.{plan_sound, plan_few}
 use Rattle.dispatch.specs.Bounds.{Within}
-use Rattle.dispatch.specs.Ticks.{answer_of, after_tick}
-use Rattle.dispatch.proofs.Choice.{at}
-use Rattle.dispatch.proofs.Idle.{on_the_box, answer_whole, after_whole}
-use Rattle.dispatch.proofs.Keeping.{within_ticked}
+use Rattle.dispatch.specs.Ticks.{fresh_state, answer_of}
+use Rattle.dispatch.proofs.Idle.{plan_on_the_box, row_end, stepped_end}
+use Rattle.dispatch.proofs.Keeping.{still_within, within_ticked}
+use Rattle.dispatch.proofs.Tables.{as_before, as_before_more, stepped_more}
+use Rattle.dispatch.proofs.Walk.{turned}
 use Rattle.dispatch.proofs.run.Run.tick.Goals as goal
 
-pub take_turns-requires : goal.take_turns-requires
-take_turns-requires c =
+pub invariant_of-turn : goal.invariant_of-turn
+invariant_of-turn c = record { sound = plan_on_the_box c.args.self.now.plan _ c.placements-placements.ensures c.loop-i.i c.loop-i-test.true }
+
+pub take-requires : goal.take-requires
+take-requires c =
     let run = c.args.self.now in
-    let plan = run.plan in
-    let few = plan_few plan in
-    let long : length (placements_of plan) ≤ length run.states = omega arith in
-    let is = sym c.placements.ensures in
+    let ps = c.placements-placements.result.now in
+    let is = c.placements-placements.ensures in
+    let few : length ps ≤ 64 = subst (λ q. length q ≤ 64) (sym is) (plan_few run.plan) in
+    let long = c.loop-i.invariant.long in
+    record { within = still_within ps run.states c.loop-i.states c.loop-i.i (subst (λ q. Within q run.states) (sym is) run.within) c.loop-i.invariant.to_come c.loop-i-test.true (omega arith) }
+
+pub loop-i-preserved : goal.loop-i-preserved
+loop-i-preserved c =
+    let run = c.args.self.now in
+    let ps = c.placements-placements.result.now in
+    let before = run.states in
+    let i = c.loop-i.i in
+    let ss = c.loop-i.states in
+    let x = c.take.new.state in
+    let now = c.loop-i.invariant in
+    let lt = c.loop-i-test.true in
+    let is = c.placements-placements.ensures in
+    let few : length ps ≤ 64 = subst (λ q. length q ≤ 64) (sym is) (plan_few run.plan) in
+    let long = now.long in
+    let here = as_before before ss i fresh_state (omega arith) now.to_come in
+    let turn = turned ps before i c.loop-i.row (plan_on_the_box run.plan ps is i lt) now.row _ x c.take.new.row here c.take.ensures.state c.take.ensures.row in
     record {
-      few = subst (λ (q : List Placement). length q ≤ 64) is few;
-      beside = subst (λ (q : List Placement). length q ≤ length run.states) is long;
-      sound = subst (λ (q : List Placement). (i : ℕ) → i < length q → SoundPlacement 8 (at q i)) is (λ i lt. on_the_box plan.cores (at (placements_of plan) i) plan.narrow ((plan_sound plan).each i lt));
-      within = subst (λ (q : List Placement). Within q run.states) is run.within;
+      row = turn.0;
+      stepped = now.stepped ∙ stepped_more (answer_of 8 ps before) ps ss i x no_placement fresh_state lt (omega arith) turn.1;
+      to_come = as_before_more before ss i x now.to_come;
+      long = length-set ss i x ∙ now.long;
     }
 
 pub invariant_of-self : goal.invariant_of-self
@@ -29,16 +49,15 @@ invariant_of-self c =
     let run = c.args.self.now in
     let ps = placements_of run.plan in
     let few : length ps ≤ length run.states = omega (arith, plan_few run.plan) in
-    let left = c.take_turns.ensures.states ∙ ap (λ q. after_tick 8 q run.states) c.placements.ensures ∙ after_whole run.plan.cores ps run.states run.plan.narrow (plan_sound run.plan) in
+    let left = stepped_end run.plan _ run.states c.loop-i.states c.loop-i.i c.placements-placements.ensures c.loop-i-test.false c.loop-i.invariant.stepped in
     record { within = subst (λ ss. Within ps ss) (sym left) (within_ticked run.plan.cores ps run.states few run.within) }
 
 pub returns : goal.returns
 returns c =
     let run = c.args.self.now in
-    let ps = placements_of run.plan in
-    let sound = plan_sound run.plan in
+    let now = c.loop-i.invariant in
     record {
-      answers = c.take_turns.ensures.row ∙ ap (λ q. answer_of 8 q run.states) c.placements.ensures ∙ answer_whole run.plan.cores ps run.states run.plan.narrow sound;
+      answers = row_end run.plan _ run.states c.loop-i.row c.loop-i.i c.placements-placements.ensures c.loop-i-test.false now.row;
       plan = refl;
-      states = c.take_turns.ensures.states ∙ ap (λ q. after_tick 8 q run.states) c.placements.ensures ∙ after_whole run.plan.cores ps run.states run.plan.narrow sound;
+      states = stepped_end run.plan _ run.states c.loop-i.states c.loop-i.i c.placements-placements.ensures c.loop-i-test.false now.stepped;
     }

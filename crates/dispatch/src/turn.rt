@@ -1,28 +1,29 @@
-// The parts of a tick: one walk along the stages, in the order of their numbers.
-ghost use Rattle.std.specs.Prelude.{◌≡◌, ℕ, ◌<◌, ◌≤◌, length, slice_index_or};
+// A stage's turn in a tick. A tick is one walk along the stages, in the order of their numbers.
+ghost use Rattle.std.specs.Prelude.{◌≡◌, ◌<◌};
 ghost use Rattle.model.specs.Limits.{review_box};
-ghost use Rattle.placing.specs.Placements.{no_placement};
 ghost use Rattle.placing.specs.Sound.{SoundPlacement};
-ghost use Rattle.dispatch.specs.Ticks.{grown, answer_of, after_tick};
+ghost use Rattle.dispatch.specs.Ticks.{grown};
 ghost use Rattle.dispatch.specs.Walk.{served_after, state_after, row_after};
-ghost use Rattle.dispatch.specs.Bounds.{InBounds, Within};
+ghost use Rattle.dispatch.specs.Bounds.{InBounds};
 
 use crate::job::{Event, Job};
 use crate::state::State;
 use model::limits::MOST_CORES;
 use placing::placement::Placement;
 
-// A stage whose turn it is in a tick.
+// A stage whose turn it is in a tick. Its state is no field beside these: a loop that lends an element to a
+// struct is not known to keep the number of elements, and each method would have to promise that it keeps the
+// reference.
 #[derive(Drop)]
-struct Turn<'a> {
-    number: u8,
-    placement: &'a Placement,
+pub(crate) struct Turn<'a> {
+    pub(crate) number: u8,
+    pub(crate) placement: &'a Placement,
     ghost sound: { SoundPlacement review_box.cores placement.now },
 }
 
 impl Turn<'_> {
     // What the stage does in a tick: it is served or passed over, and the tick is over.
-    fn take(&self, state: &mut State, row: &mut [u8; MOST_CORES])
+    pub(crate) fn take(&self, state: &mut State, row: &mut [u8; MOST_CORES])
         requires within { InBounds self.now.placement.now state.old }
         ensures state { state.new ≡ state_after self.now.placement.now state.old row.old }
         ensures row { row.new ≡ row_after self.now.number self.now.placement.now state.old row.old }
@@ -63,30 +64,10 @@ impl Turn<'_> {
     {
         state.age += 1;
         if state.age == self.placement.period {
-            state.age = 0;
-            state.first = 0;
-            state.second = 0;
-            state.job = state.job.moved(Event::Released);
+            *state = State {
+                job: state.job.moved(Event::Released),
+                ..State::default()
+            };
         }
     }
-}
-
-// All stages take their turns. The answer is what each core took, core 1 first.
-pub(crate) fn take_turns(placements: &[Placement], states: &mut [State]) -> [u8; MOST_CORES]
-    requires few { length placements.now ≤ review_box.stages }
-    requires beside { length placements.now ≤ length states.old }
-    requires sound { (i : ℕ) → i < length placements.now → SoundPlacement review_box.cores (slice_index_or placements.now i no_placement) }
-    requires within { Within placements.now states.old }
-    ensures row { result ≡ answer_of review_box.cores placements.now states.old }
-    ensures states { states.new ≡ after_tick review_box.cores placements.now states.old }
-{
-    let mut row = [0; MOST_CORES];
-    for (i, placement) in placements.iter().enumerate() {
-        let turn = Turn {
-            number: (i + 1) as u8,
-            placement,
-        };
-        turn.take(&mut states[i], &mut row);
-    }
-    row
 }
