@@ -1,21 +1,13 @@
 -- A run's bounds hold as it is opened, and every call keeps them; its answers where a stage is found.
-use Rattle.std.proofs.Common.{◌≡◌, ℕ, zero, suc, ◌+◌, ◌-◌, ◌<◌, ◌≤◌, Bool, true, false, cond, ◌&&◌, eqb, leb, List, [], ◌∷◌, length, get_or, set, replicate, Ok, Err, sym, refl, ap, ◌∙◌, subst, ap₂, arith}
+use Rattle.std.proofs.Common.{◌≡◌, ℕ, suc, ◌+◌, ◌<◌, ◌≤◌, Bool, true, false, cond, eqb, List, length, get_or, replicate, sym, refl, subst, arith}
 use lib.ListN.{get_or-replicate}
-use Rattle.std.proofs.lemmas.List.{get_or_default}
-use Rattle.std.proofs.lemmas.Bool.{eqb-false, le-leb, and_from, and_right, cond-true, cond-false}
-use Rattle.model.specs.declared.fault.Cause.{Cause}
+use Rattle.std.proofs.lemmas.Bool.{eqb-false}
 use Rattle.placing.specs.declared.placement.Placement.{Placement}
 use Rattle.dispatch.specs.declared.state.State.{State}
-use Rattle.dispatch.specs.declared.job.Job.{Job}
-use Rattle.dispatch.specs.declared.job.Job.TheVariants.{Open}
-use Rattle.dispatch.specs.declared.job.Event.TheVariants.{Ended as EndedEvent}
-use Rattle.dispatch.specs.Jobs.{is_open, moved_by}
 use Rattle.dispatch.specs.Ticks.{no_state, one_if, served, grown, after_tick, fresh_state}
-use Rattle.dispatch.specs.Ends.{is_stage, state_at, refusal, ended, end_answer, after_end, look_answer}
 use Rattle.placing.specs.Sound.{Sound}
 use Rattle.dispatch.specs.Bounds.{InBounds, Within}
 use Rattle.dispatch.proofs.Choice.{at, state_of, took, took_wants}
-use Rattle.dispatch.proofs.Opens.{is_open_true, none_true}
 use Rattle.dispatch.proofs.Tables.{AsBefore, as_before}
 use Rattle.dispatch.proofs.Rows.{ticked_row}
 use Rattle.dispatch.proofs.Wants.{wants_first, wants_second}

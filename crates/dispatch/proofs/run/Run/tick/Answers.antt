@@ -1,7 +1,7 @@
 use Rattle.std.proofs.Common.{◌≤◌, length, length-set, sym, refl, ◌∙◌, subst, arith}
 use Rattle.placing.specs.Plans.{placements_of}
 use Rattle.placing.specs.Placements.{no_placement}
-use Rattle.placing.proofs.SoundPlans.{plan_sound, plan_few}
+use Rattle.placing.proofs.SoundPlans.{plan_few}
 use Rattle.dispatch.specs.Bounds.{Within}
 use Rattle.dispatch.specs.Ticks.{fresh_state, answer_of}
 use Rattle.dispatch.proofs.Idle.{plan_on_the_box, row_end, stepped_end}
