@@ -1,12 +1,10 @@
 -- When a stage wants a tick of a core.
-use Rattle.std.proofs.Common.{◌≡◌, ℕ, suc, ◌<◌, true, cond, eqb, ltb, ◌⊎◌, refl, ap, ◌∙◌, inl, inr, ⊎_elim, arith}
-use Rattle.std.proofs.lemmas.Bool.{cases_eq, ltb-true, lt-ltb, eq-eqb, ne_eqb, and_parts, and_from, cond-true, cond-false}
+use Rattle.std.proofs.Common.{◌≡◌, ℕ, suc, ◌<◌, true, cond, eqb, ltb, ◌⊎◌, refl, ◌∙◌, inl, inr, ⊎_elim, arith}
+use Rattle.std.proofs.lemmas.Bool.{cases_eq, ltb-true, eq-eqb, ne_eqb, and_parts, cond-true, cond-false}
 use Rattle.placing.specs.declared.placement.Placement.{Placement}
 use Rattle.dispatch.specs.declared.state.State.{State}
-use Rattle.dispatch.specs.declared.job.Job.TheVariants.{Open}
 use Rattle.dispatch.specs.Jobs.{is_open}
 use Rattle.dispatch.specs.Ticks.{wants, share_on, given_on}
-use Rattle.dispatch.proofs.Opens.{is_open_true}
 
 -- a number that goes by the core: a on the first core, b on the next
 abbrev by_core : ℕ → ℕ → ℕ → ℕ → ℕ
@@ -28,14 +26,8 @@ pub share_second : (p : Placement) → share_on p (suc p.core) ≡ p.second
 share_second p = by_second p.core p.first p.second
 
 module _ (p : Placement) (s : State) where
-  pub wants_open : (j : ℕ) → wants p s j ≡ true → s.job ≡ Open
-  wants_open j h = is_open_true s.job (and_parts (is_open s.job) (ltb (given_on p s j) (share_on p j)) h).0
-
   pub wants_less : (j : ℕ) → wants p s j ≡ true → given_on p s j < share_on p j
   wants_less j h = ltb-true (given_on p s j) (share_on p j) (and_parts (is_open s.job) (ltb (given_on p s j) (share_on p j)) h).1
-
-  pub wants_from : (j : ℕ) → s.job ≡ Open → given_on p s j < share_on p j → wants p s j ≡ true
-  wants_from j o h = and_from (is_open s.job) (ltb (given_on p s j) (share_on p j)) (ap is_open o) (lt-ltb (given_on p s j) (share_on p j) h)
 
   pub given_first : given_on p s p.core ≡ s.first
   given_first = by_first p.core s.first s.second
