@@ -1,30 +1,18 @@
 -- Whom each core takes in a tick.
-use Rattle.std.proofs.Common.{◌≡◌, ℕ, zero, suc, ◌+◌, ◌-◌, ◌<◌, ◌≤◌, Bool, true, false, cond, not, ◌&&◌, eqb, ltb, List, [], ◌∷◌, ◌++◌, length, get_or, replicate, sym, refl, ap, ◌∙◌, subst, ⊎_elim, arith, length-append}
-use lib.ListN.{length-replicate, get_or-eq_default}
-use Rattle.std.proofs.lemmas.Bool.{eqb-true, and_parts, and_right, le-ltb, not-true, both_ways, false≢true, cases_lt}
+use Rattle.std.proofs.Common.{◌≡◌, ℕ, zero, suc, ◌+◌, ◌-◌, ◌<◌, ◌≤◌, Bool, true, false, cond, not, ◌&&◌, eqb, List, [], ◌∷◌, ◌++◌, length, get_or, replicate, sym, refl, ap, ◌∙◌, subst, ⊎_elim, arith, length-append}
+use Rattle.std.proofs.lemmas.List.{length-replicate, get_or_past}
+use Rattle.std.proofs.lemmas.Bool.{eqb-true, and_parts, false≢true, cases_lt}
 use Rattle.std.proofs.lemmas.Bool.Decides.{nat_tests}
 use Rattle.placing.specs.declared.placement.Placement.{Placement}
 use Rattle.dispatch.specs.declared.state.State.{State}
-use Rattle.dispatch.specs.Jobs.{is_open}
 use Rattle.placing.specs.Placements.{no_placement}
-use Rattle.dispatch.specs.Ticks.{no_state, share_on, given_on, wants, pick, picks, answer_of, taken_on}
+use Rattle.dispatch.specs.Ticks.{no_state, wants, pick, picks, answer_of, taken_on}
 
 abbrev pub at : List Placement → ℕ → Placement
 at ps i = get_or ps i no_placement
 
 abbrev pub state_of : List State → ℕ → State
 state_of ss i = get_or ss i no_state
-
--- past the plan nobody wants a tick
-none_wants : (s : State) (j : ℕ) → wants no_placement s j ≡ false
-none_wants s j =
-    let none = go (eqb j 0) (eqb j 1) in
-    and_right (is_open s.job) (ltb (given_on no_placement s j) (share_on no_placement j)) (le-ltb (given_on no_placement s j) (share_on no_placement j) (omega arith))
-  where
-    go : (a b : Bool) → ◌≡◌ {A = ℕ} (cond a 0 (cond b 0 0)) 0
-    go true b = refl
-    go false true = refl
-    go false false = refl
 
 -- stage i qualifies for core j, stages being numbered from n
 abbrev pub fits : ℕ → ℕ → ℕ → List Placement → List State → ℕ → Bool
@@ -60,15 +48,11 @@ pick_most j prev n (p ∷ ps) [] = omega arith
 pick_most j prev n (p ∷ ps) (s ∷ ss) = let later = pick_most j prev (suc n) ps ss in grind (arith, nat_tests)
 
 pick_range : (j prev n : ℕ) (ps : List Placement) (ss : List State) (i : ℕ) → fits j prev n ps ss i ≡ true → (n ≤ pick j prev n ps ss) × (pick j prev n ps ss ≤ n + i)
-pick_range j prev n [] ss i h = absurd (both_ways (wants no_placement (state_of ss i) j) (none_wants (state_of ss i) j) (and_parts (wants no_placement (state_of ss i) j) (not (eqb (n + i) prev)) h).0)
+pick_range j prev n [] ss i h = absurd (grind (arith, nat_tests))
 pick_range j prev n (p ∷ ps) [] i h = absurd (false≢true h)
-pick_range j prev n (p ∷ ps) (s ∷ ss) zero h = go (wants p s j && not (eqb n prev)) refl
-  where
-    go : (b : Bool) → (wants p s j && not (eqb n prev)) ≡ b → (n ≤ cond b n (pick j prev (suc n) ps ss)) × (cond b n (pick j prev (suc n) ps ss) ≤ n + 0)
-    go true e = (omega arith, omega arith)
-    go false e = absurd (false≢true (sym e ∙ subst (λ x. (wants p s j && not (eqb x prev)) ≡ true) {x = n + 0} {y = n} (omega arith) h))
+pick_range j prev n (p ∷ ps) (s ∷ ss) zero h = (grind (arith, nat_tests), grind (arith, nat_tests))
 pick_range j prev n (p ∷ ps) (s ∷ ss) (suc i) h =
-    let later = pick_range j prev (suc n) ps ss i (subst (λ x. (wants (at ps i) (state_of ss i) j && not (eqb x prev)) ≡ true) {x = n + suc i} {y = suc n + i} (omega arith) h) in
+    let later = pick_range j prev (suc n) ps ss i in
     (grind (arith, nat_tests), grind (arith, nat_tests))
 
 picks_length : (n j prev : ℕ) (ps : List Placement) (ss : List State) → length (picks n j prev ps ss) ≡ n
@@ -110,7 +94,7 @@ pub took_pick : (cores : ℕ) (ps : List Placement) (ss : List State) (k : ℕ) 
 took_pick cores ps ss k lt = took_bare cores ps ss (suc k) ∙ bare_pick cores ps ss k lt ∙ ap (λ x. pick (suc k) x 1 ps ss) (sym (took_bare cores ps ss k))
 
 pub took_none : (cores : ℕ) (ps : List Placement) (ss : List State) (k : ℕ) → cores ≤ k → took cores ps ss (suc k) ≡ 0
-took_none cores ps ss k le = took_bare cores ps ss (suc k) ∙ get_or-eq_default (picks cores 1 0 ps ss) 0 {n = k} (omega (arith, picks_length cores 1 0 ps ss))
+took_none cores ps ss k le = took_bare cores ps ss (suc k) ∙ get_or_past (picks cores 1 0 ps ss) k 0 (omega (arith, picks_length cores 1 0 ps ss))
 
 pub answer_length : (cores : ℕ) (ps : List Placement) (ss : List State) → cores ≤ 8 → length (answer_of cores ps ss) ≡ 8
 answer_length cores ps ss le = omega (arith, length-append (picks cores 1 0 ps ss) (replicate (8 - cores) 0), picks_length cores 1 0 ps ss, length-replicate {A = ℕ} (8 - cores) 0)
@@ -124,11 +108,8 @@ took_most cores ps ss (suc k) =
 abbrev pub free : ℕ → List Placement → List State → ℕ → ℕ → Bool
 free cores ps ss k i = wants (at ps i) (state_of ss i) (suc k) && not (eqb (took cores ps ss k) (suc i))
 
-eqb_turn : (a b : ℕ) → eqb a b ≡ eqb b a
-eqb_turn a b = grind (arith, nat_tests)
-
 qualifies : (cores : ℕ) (ps : List Placement) (ss : List State) (k i : ℕ) → fits (suc k) (took cores ps ss k) 1 ps ss i ≡ free cores ps ss k i
-qualifies cores ps ss k i = ap (λ b. wants (at ps i) (state_of ss i) (suc k) && not b) (ap (λ y. eqb y (took cores ps ss k)) {x = 1 + i} {y = suc i} (omega arith) ∙ eqb_turn (suc i) (took cores ps ss k))
+qualifies cores ps ss k i = grind (arith, nat_tests)
 
 -- a core takes no later stage than one that qualifies
 pub took_range : (cores : ℕ) (ps : List Placement) (ss : List State) (k i : ℕ) → k < cores → free cores ps ss k i ≡ true → (1 ≤ took cores ps ss (suc k)) × (took cores ps ss (suc k) ≤ suc i)
@@ -152,4 +133,4 @@ took_wants cores ps ss (suc k) i h = (and_parts (wants (at ps i) (state_of ss i)
 
 -- no stage is taken by two cores that follow one another
 pub took_once : (cores : ℕ) (ps : List Placement) (ss : List State) (k i : ℕ) → eqb (took cores ps ss (suc k)) (suc i) ≡ true → eqb (took cores ps ss k) (suc i) ≡ true → ⊥
-took_once cores ps ss k i h g = both_ways (eqb (took cores ps ss k) (suc i)) (not-true (eqb (took cores ps ss k) (suc i)) (and_parts (wants (at ps i) (state_of ss i) (suc k)) (not (eqb (took cores ps ss k) (suc i))) (took_free cores ps ss k i h)).1) g
+took_once cores ps ss k i h g = let alone = took_free cores ps ss k i h in grind (arith, nat_tests)

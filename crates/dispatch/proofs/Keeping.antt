@@ -1,10 +1,10 @@
--- A run's bounds hold as it is opened, and every call keeps them; its answers where a stage is found.
-use Rattle.std.proofs.Common.{◌≡◌, ℕ, suc, ◌+◌, ◌<◌, ◌≤◌, Bool, true, false, cond, eqb, List, length, get_or, replicate, sym, refl, subst, arith}
-use lib.ListN.{get_or-replicate}
-use Rattle.std.proofs.lemmas.Bool.{eqb-false}
+-- A run's bounds hold as it is opened, and a tick keeps them.
+use Rattle.std.proofs.Common.{◌≡◌, ℕ, suc, ◌<◌, ◌≤◌, Bool, true, eqb, List, length, get_or, replicate, sym, subst, arith}
+use Rattle.std.proofs.lemmas.List.{get_or-replicate}
+use Rattle.std.proofs.lemmas.Bool.Decides.{nat_tests}
 use Rattle.placing.specs.declared.placement.Placement.{Placement}
 use Rattle.dispatch.specs.declared.state.State.{State}
-use Rattle.dispatch.specs.Ticks.{no_state, one_if, served, grown, after_tick, fresh_state}
+use Rattle.dispatch.specs.Ticks.{no_state, served, grown, after_tick, fresh_state}
 use Rattle.placing.specs.Sound.{Sound}
 use Rattle.dispatch.specs.Bounds.{InBounds, Within}
 use Rattle.dispatch.proofs.Choice.{at, state_of, took, took_wants}
@@ -18,23 +18,15 @@ within_zeros cores plan s sound few zeros i lt =
     let low = (sound.each i lt).period_least in
     subst (λ s. InBounds (at plan i) s) (sym (get_or-replicate 64 i s no_state (omega arith))) (omega arith, omega arith, omega arith)
 
-bounded : (b : Bool) (x m : ℕ) → (b ≡ true → x < m) → x ≤ m → x + one_if b ≤ m
-bounded true x m h le = omega (arith, h refl)
-bounded false x m h le = omega arith
-
-bounded_step : (p : Placement) (s : State) (f g : Bool) → (f ≡ true → s.first < p.first) → (g ≡ true → s.second < p.second) → InBounds p s → InBounds p (grown p (served f g p s))
-bounded_step p s f g hf hg w = go (eqb (suc s.age) p.period) refl
-  where
-    go : (b : Bool) → eqb (suc s.age) p.period ≡ b → InBounds p (cond b fresh_state (record { age = suc s.age; first = (served f g p s).first; second = (served f g p s).second; job = (served f g p s).job }))
-    go true e = (omega (arith, w.0), omega arith, omega arith)
-    go false e = (omega (arith, w.0, eqb-false (suc s.age) p.period e), bounded f s.first p.first hf w.1, bounded g s.second p.second hg w.2)
+bounded : (p : Placement) (s : State) (f g : Bool) → (f ≡ true → s.first < p.first) → (g ≡ true → s.second < p.second) → InBounds p s → InBounds p (grown p (served f g p s))
+bounded p s f g hf hg w = (grind (arith, nat_tests), grind (arith, nat_tests), grind (arith, nat_tests))
 
 pub within_ticked : (cores : ℕ) (plan : List Placement) (ss : List State) → length plan ≤ length ss → Within plan ss → Within plan (after_tick cores plan ss)
 within_ticked cores plan ss le within i lt =
     let p = at plan i in
     let s = state_of ss i in
     subst (λ x. InBounds p x) (sym (ticked_row cores plan ss i lt (omega arith)))
-    (bounded_step p s (eqb (took cores plan ss p.core) (suc i)) (eqb (took cores plan ss (suc p.core)) (suc i)) (λ h. wants_first p s (took_wants cores plan ss p.core i h)) (λ h. wants_second p s (took_wants cores plan ss (suc p.core) i h)) (within i lt))
+    (bounded p s (eqb (took cores plan ss p.core) (suc i)) (eqb (took cores plan ss (suc p.core)) (suc i)) (λ h. wants_first p s (took_wants cores plan ss p.core i h)) (λ h. wants_second p s (took_wants cores plan ss (suc p.core) i h)) (within i lt))
 
 -- a stage whose turn is to come is within its bounds as before
 pub still_within : (ps : List Placement) (before ss : List State) (i : ℕ) → Within ps before → AsBefore before ss i → i < length ps → i < length ss → InBounds (at ps i) (get_or ss i fresh_state)

@@ -1,4 +1,3 @@
-pub mod Opens
 pub mod Choice
 pub mod Rows
 pub mod Wants

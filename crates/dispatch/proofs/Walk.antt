@@ -1,7 +1,7 @@
 -- One walk along the stages takes for each core what the core takes.
 use Rattle.std.proofs.Common.{◌≡◌, ℕ, suc, ◌+◌, ◌-◌, ◌<◌, ◌≤◌, Bool, true, false, cond, not, ◌&&◌, eqb, ltb, leb, List, length, get_or, set, sym, refl, ap, ◌∙◌, subst, ap₂, ⊎_elim, add-one, arith}
 use Rattle.std.proofs.lemmas.List.{ext_get_or, length-set, get_or-set_same, get_or-set_other}
-use Rattle.std.proofs.lemmas.Bool.{eqb-true, both_ways, cond-true, cond-false, cases_eq, cases_lt, le-ltb}
+use Rattle.std.proofs.lemmas.Bool.{false_from_ne_true, eqb-true, both_ways, cond-true, cond-false, cases_eq, cases_lt, le-ltb}
 use Rattle.std.proofs.lemmas.Bool.Decides.{nat_tests}
 use Rattle.placing.specs.declared.placement.Placement.{Placement}
 use Rattle.placing.specs.Sound.{SoundPlacement}
@@ -9,7 +9,6 @@ use Rattle.dispatch.specs.declared.state.State.{State}
 use Rattle.dispatch.specs.Jobs.{is_open}
 use Rattle.dispatch.specs.Ticks.{wants, served, grown, answer_of, step}
 use Rattle.dispatch.specs.Walk.{takes_first, takes_second, state_after, row_after}
-use Rattle.dispatch.proofs.Opens.{none_true}
 use Rattle.dispatch.proofs.Wants.{share_first, share_second, given_first, given_second, wants_where}
 use Rattle.dispatch.proofs.Choice.{at, state_of, took, free, took_range, took_free, took_wants, took_once, took_none, took_most, answer_length}
 
@@ -36,7 +35,7 @@ row_all ps ss i row le h =
 -- a core takes stage suc i if it can, and took none before
 by_turn : (f : Bool) (i t : ℕ) → (f ≡ true → (1 ≤ t) × (t ≤ suc i)) → (eqb t (suc i) ≡ true → f ≡ true) → (f && eqb (up_to i t) 0) ≡ eqb t (suc i)
 by_turn true i t range back = let h = range refl in grind (arith, nat_tests)
-by_turn false i t range back = sym (none_true (eqb t (suc i)) (λ h. both_ways false refl (back h)))
+by_turn false i t range back = sym (false_from_ne_true (eqb t (suc i)) (λ h. both_ways false refl (back h)))
 
 and_not_so : (a b : Bool) → b ≡ false → a ≡ (a && not b)
 and_not_so true b h = sym (ap not h)
@@ -62,7 +61,7 @@ module _ (ps : List Placement) (ss : List State) (i : ℕ) (row : List ℕ) (sou
       let to = sound.on_a_core in
       let k = p.core - 1 in
       let e : p.core ≡ suc k = omega arith in
-      let before : by k ≡ false = none_true (by k) (λ h. ⊎_elim (λ q. omega arith) (λ q. omega arith) (wants_where p s k (took_wants 8 ps ss k i h))) in
+      let before : by k ≡ false = false_from_ne_true (by k) (λ h. ⊎_elim (λ q. omega arith) (λ q. omega arith) (wants_where p s k (took_wants 8 ps ss k i h))) in
       let wanted : (is_open s.job && ltb s.first p.first) ≡ free 8 ps ss k i = ap₂ (λ a b. is_open s.job && ltb a b) (sym (given_first p s)) (sym (share_first p)) ∙ ap (wants p s) e ∙ and_not_so (wants p s (suc k)) (by k) before in
       ap (λ b. b && eqb (get_or row k 0) 0) wanted ∙ turn k (omega arith) ∙ ap by (sym e)
 
@@ -84,7 +83,7 @@ module _ (ps : List Placement) (ss : List State) (i : ℕ) (row : List ℕ) (sou
   -- a core that does not take this stage keeps what it has
   kept : (j : ℕ) → (suc j ≡ p.core → takes_first p s row ≡ false) → (j ≡ p.core → takes_second p s row ≡ false) → get_or row j 0 ≡ up_to (suc i) (took 8 ps ss (suc j))
   kept j one two =
-      let not_here : by (suc j) ≡ false = none_true (by (suc j)) (λ h. ⊎_elim (λ q. both_ways (by (suc j)) (ap by q ∙ sym first_is ∙ one q) h) (λ q. both_ways (by (suc j)) (ap by q ∙ sym second_is ∙ two (omega arith)) h) (wants_where p s (suc j) (took_wants 8 ps ss (suc j) i h))) in
+      let not_here : by (suc j) ≡ false = false_from_ne_true (by (suc j)) (λ h. ⊎_elim (λ q. both_ways (by (suc j)) (ap by q ∙ sym first_is ∙ one q) h) (λ q. both_ways (by (suc j)) (ap by q ∙ sym second_is ∙ two (omega arith)) h) (wants_where p s (suc j) (took_wants 8 ps ss (suc j) i h))) in
       now.each j ∙ sym (up_to_more i (took 8 ps ss (suc j)) ∙ cond-false (by (suc j)) (suc i) (up_to i (took 8 ps ss (suc j))) not_here)
 
   -- one that does has this stage
@@ -112,7 +111,7 @@ module _ (ps : List Placement) (ss : List State) (i : ℕ) (row : List ℕ) (sou
           let c : p.core ≡ suc (p.core - 1) = omega arith in
           let taken : by (suc (p.core - 1)) ≡ true = ap by (sym c) ∙ sym first_is ∙ e in
           written (p.core - 1) (omega arith) taken
-          (λ j q. kept j (λ r. absurd (q (omega arith))) (λ r. second_is ∙ none_true (by (suc p.core)) (λ h. took_once 8 ps ss p.core i h (sym first_is ∙ e))))
+          (λ j q. kept j (λ r. absurd (q (omega arith))) (λ r. second_is ∙ false_from_ne_true (by (suc p.core)) (λ h. took_once 8 ps ss p.core i h (sym first_is ∙ e))))
       go false true e f =
           let taken = sym second_is ∙ f in
           let here : p.core < 8 = ⊎_elim (λ lt. lt) (λ le. let none = took_none 8 ps ss p.core le in let t = eqb-true (took 8 ps ss (suc p.core)) (suc i) taken in absurd (omega arith)) (cases_lt p.core 8) in
