@@ -20,6 +20,10 @@ state_at k ss = slice_index_or ss (k - 1) no_state
 abbrev pub refusal : Cause → ℕ → Fault
 refusal cause k = fault cause k Layer.Running
 
+-- where the stage's state stands among the states
+abbrev pub index_answer : ℕ → List Placement → Result ℕ Fault
+index_answer k ps = cond (is_stage k ps) (Ok (k - 1)) (Err (refusal Cause.NoSuchStage k))
+
 abbrev pub end_answer : ℕ → List Placement → List State → Result (Unit {0}) Fault
 end_answer k ps ss = cond (is_stage k ps) (cond (is_open (state_at k ss).job) (Ok tt) (Err (refusal Cause.NotOpen k))) (Err (refusal Cause.NoSuchStage k))
 

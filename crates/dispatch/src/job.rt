@@ -3,8 +3,9 @@ ghost use Rattle.std.specs.Prelude.{◌≡◌};
 ghost use Rattle.dispatch.specs.Jobs.{job_number, moved_by};
 
 // The work of a stage between one release and the next, by the number that look tells.
-#[derive(Clone, Copy, PartialEq, Eq, Debug)]
+#[derive(Clone, Copy, PartialEq, Eq, Debug, Default)]
 pub enum Job {
+    #[default]
     Open = 1,
     Ended = 2,
     Spent = 3,
@@ -18,13 +19,16 @@ pub enum Event {
     Released,
 }
 
-impl Job {
-    pub fn number(self) -> u8
-        ensures { result ≡ job_number self }
-    {
-        self as u8
-    }
+// The number that look tells.
+impl From<Job> for u8 {
+    ghost from_gives = { λ job n. n ≡ job_number job };
 
+    fn from(job: Job) -> u8 {
+        job as u8
+    }
+}
+
+impl Job {
     // The job after an event: the one place where a job moves.
     pub fn moved(self, event: Event) -> Job
         ensures { result ≡ moved_by self event }

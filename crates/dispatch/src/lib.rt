@@ -5,4 +5,4 @@ pub mod examples;
 pub mod job;
 pub mod run;
 pub mod state;
-mod tick;
+mod turn;

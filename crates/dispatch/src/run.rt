@@ -1,15 +1,13 @@
 // A run of a plan, and the calls on it.
 ghost use Rattle.std.specs.Prelude.{◌≡◌};
-ghost use Rattle.model.specs.declared.fault.Layer.{Layer};
-ghost use Rattle.model.specs.Faults.{fault};
 ghost use Rattle.placing.specs.Plans.{placements_of};
 ghost use Rattle.dispatch.specs.Bounds.{Within};
 ghost use Rattle.dispatch.specs.Ticks.{answer_of, after_tick, fresh_states};
-ghost use Rattle.dispatch.specs.Ends.{end_answer, after_end, look_answer};
+ghost use Rattle.dispatch.specs.Ends.{index_answer, end_answer, after_end, look_answer};
 
 use crate::job::{Event, Job};
 use crate::state::State;
-use crate::tick::{answer, step_all};
+use crate::turn::Turn;
 use model::fault::{Cause, Fault, Layer};
 use model::limits::{MOST_CORES, MOST_STAGES};
 use placing::plan::Plan;
@@ -22,23 +20,6 @@ pub struct Run {
     ghost within: { Within (placements_of plan) states },
 }
 
-const FRESH: State = State {
-    age: 0,
-    first: 0,
-    second: 0,
-    job: Job::Open,
-};
-
-fn refusal(cause: Cause, stage: usize) -> Fault
-    ensures { result ≡ fault cause stage Layer.Running }
-{
-    Fault {
-        cause,
-        place: stage,
-        layer: Layer::Running,
-    }
-}
-
 impl Run {
     // Takes the plan into a run: every job is open, and nothing is given yet.
     pub fn open(plan: Plan) -> Run
@@ -47,7 +28,7 @@ impl Run {
     {
         Run {
             plan,
-            states: [FRESH; MOST_STAGES],
+            states: [State::default(); MOST_STAGES],
         }
     }
 
@@ -65,9 +46,18 @@ impl Run {
         ensures plan { self.new.plan ≡ self.old.plan }
         ensures states { self.new.states ≡ after_tick self.old.plan.cores (placements_of self.old.plan) self.old.states }
     {
-        let all = answer(self.plan.placements(), &self.states, self.plan.cores());
-        step_all(&all, self.plan.placements(), &mut self.states);
-        all
+        let mut row = [0; MOST_CORES];
+        let placements = self.plan.placements();
+        let states = &mut self.states;
+        for (i, placement) in placements.iter().enumerate() {
+            let turn = Turn {
+                number: (i + 1) as u8,
+                placement,
+            };
+            // by index: nothing is known of what an adapter of `iter_mut` leaves in the states
+            turn.take(&mut states[i], &mut row);
+        }
+        row
     }
 
     // Ends the open job of a stage.
@@ -76,13 +66,11 @@ impl Run {
         ensures plan { self.new.plan ≡ self.old.plan }
         ensures states { self.new.states ≡ after_end stage (placements_of self.old.plan) self.old.states }
     {
-        if stage == 0 || stage > self.plan.placements().len() {
-            return Err(refusal(Cause::NoSuchStage, stage));
-        }
-        let Job::Open = self.states[stage - 1].job else {
-            return Err(refusal(Cause::NotOpen, stage));
+        let i = self.index_of(stage)?;
+        let Job::Open = self.states[i].job else {
+            return Err(Cause::NotOpen.at(stage, Layer::Running));
         };
-        self.states[stage - 1].job = Job::Open.moved(Event::Ended);
+        self.states[i].job = Job::Open.moved(Event::Ended);
         Ok(())
     }
 
@@ -90,9 +78,17 @@ impl Run {
     pub fn look(&self, stage: usize) -> Result<State, Fault>
         ensures { result ≡ look_answer stage (placements_of self.now.plan) self.now.states }
     {
+        let i = self.index_of(stage)?;
+        Ok(self.states[i])
+    }
+
+    // Where a stage's state stands, if there is such a stage. Stages are numbered from 1.
+    fn index_of(&self, stage: usize) -> Result<usize, Fault>
+        ensures { result ≡ index_answer stage (placements_of self.now.plan) }
+    {
         if stage == 0 || stage > self.plan.placements().len() {
-            return Err(refusal(Cause::NoSuchStage, stage));
+            return Err(Cause::NoSuchStage.at(stage, Layer::Running));
         }
-        Ok(self.states[stage - 1])
+        Ok(stage - 1)
     }
 }

@@ -1,7 +1,8 @@
 // What a run keeps of one stage.
 use crate::job::Job;
 
-#[derive(Clone, Copy, PartialEq, Eq, Debug)]
+// A stage that was just released is in the default state.
+#[derive(Clone, Copy, PartialEq, Eq, Debug, Default)]
 pub struct State {
     // the ticks since the stage's release
     pub age: u32,

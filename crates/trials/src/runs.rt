@@ -56,7 +56,7 @@ fn looks(rt: HostRuntime) -> Result<(), Fail> {
         job: Job::Spent,
     };
     assert_eq!(rt; run.look(1), Ok(spent));
-    assert_eq!(rt; Job::Spent.number(), 3);
+    assert_eq!(rt; u8::from(Job::Spent), 3);
     assert_eq!(rt; run.look(5), Err(Cause::NoSuchStage.at(5, Layer::Running)));
     Ok(())
 }
