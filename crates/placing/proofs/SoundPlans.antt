@@ -7,7 +7,6 @@ use native.Mathlib.Bridge.{le_prop}
 use native.Mathlib.Nat.{ℕ_set}
 use Rattle.rules.specs.declared.load.Member.{Member}
 use Rattle.rules.specs.Timing.{Timely}
-use Rattle.std.proofs.lemmas.List.{length-take}
 use Rattle.placing.specs.declared.plan.Plan.{Plan}
 use Rattle.model.specs.declared.fault.Fault.{Fault}
 use Rattle.placing.specs.Plans.{Layout, placements_of, laid_out, place_answer, place_layout}
@@ -50,7 +49,7 @@ pub plan_sound : (p : Plan) → Sound p.cores (placements_of p)
 plan_sound p = sound_out p.cores (placements_of p) p.sound
 
 pub plan_few : (p : Plan) → length (placements_of p) ≤ 64
-plan_few p = let h = p.few in omega (arith, length-take p.count p.placements)
+plan_few p = p.few
 
 -- a call that answers what is laid out answers and leaves what placing does
 pub place_refused : (m : ℕ) (x : Result (List Placement) Fault) (before : Layout) (f : Fault) → Err f ≡ laid_out m x → (Err f ≡ place_answer x) × (before ≡ place_layout x m before)
