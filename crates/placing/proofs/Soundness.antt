@@ -199,16 +199,16 @@ module _ (passes : List Member → Bool) (cores : ℕ) where
   many_stages [] k core load = refl
   many_stages (s ∷ ss) k core load = many_and_then (length ss) (place_stage passes (cores - core) core load s) k _ (λ l. many_stages ss (k + 1) l.core l.load)
 
-  pub stages_many : (ss : List Stage) (qs : List Placement) → place_stages passes cores 1 1 [] ss ≡ Ok qs → length qs ≡ length ss
-  stages_many ss qs e = subst (Many (length ss)) e (many_stages ss 1 1 [])
+  pub stages_many : (ss : List Stage) (qs : List Placement) → Ok qs ≡ place_stages passes cores 1 1 [] ss → length qs ≡ length ss
+  stages_many ss qs e = subst (Many (length ss)) (sym e) (many_stages ss 1 1 [])
 
   fine_passes : (l : List Member) → 0 < length l → fine l ≡ true → passes l ≡ true
   fine_passes [] lt h = absurd (omega arith)
   fine_passes (m ∷ l) lt h = h
 
-  pub stages_sound : ((l : List Member) → passes l ≡ true → lawful l ≡ true) → ((l : List Member) → passes l ≡ true → Timely l) → 1 ≤ cores → (ss : List Stage) (qs : List Placement) → Lawfuls ss → place_stages passes cores 1 1 [] ss ≡ Ok qs → Sound cores qs
+  pub stages_sound : ((l : List Member) → passes l ≡ true → lawful l ≡ true) → ((l : List Member) → passes l ≡ true → Timely l) → 1 ≤ cores → (ss : List Stage) (qs : List Placement) → Lawfuls ss → Ok qs ≡ place_stages passes cores 1 1 [] ss → Sound cores qs
   stages_sound lawful-only timely one ss qs all e =
-      let y : Laid qs = stages_laid ss 1 1 [] [] all (record { each = λ i lt. absurd (omega arith); from_one = omega arith; within = one; here = refl; above = λ j h. refl; all_fine = λ j. refl }) qs e in
+      let y : Laid qs = stages_laid ss 1 1 [] [] all (record { each = λ i lt. absurd (omega arith); from_one = omega arith; within = one; here = refl; above = λ j h. refl; all_fine = λ j. refl }) qs (sym e) in
       record {
         each = y.each;
         legal = λ j lt. lawful-only (load_on qs j) (fine_passes (load_on qs j) lt (y.all_fine j));

@@ -29,9 +29,21 @@ turn passes cores core load s le =
     (λ e. let n : cores - core ≡ suc (cores - (core + 1)) = omega arith in rw (n, ne_eqb core cores e))
     (cases_eq core cores)
 
--- a passed load of a lawful rule has no more members than a box has stages
-pub room_left : (load : List Member) (cost period : ℕ) → lawful (joined load cost period) ≡ true → length load < 64
+-- a lawful load has no more members than a box has stages
+room_left : (load : List Member) (cost period : ℕ) → lawful (joined load cost period) ≡ true → length load < 64
 room_left [] cost period h = omega arith
 room_left (m ∷ l) cost period h =
     let few = leb-true _ 64 (lawful_parts m (l ++ (newcomer cost period ∷ [])) h).few in
     omega (arith, few, length_push l (newcomer cost period))
+
+-- so a whole stage that the rule lets join finds room
+pub whole_fits : (passes : List Member → Bool) → ((l : List Member) → passes l ≡ true → lawful l ≡ true) → (load : List Member) (s : Stage) → 1 ≤ s.cost → share_of passes load s.cost s.period ≡ s.cost → length load < 64
+whole_fits passes lawful-only load s some is =
+    room_left load _ s.period (lawful-only _ ((share_is passes load s.cost s.period).passed (omega arith)))
+
+-- the share is never more than the cost
+pub share_within : (passes : List Member → Bool) (load : List Member) (c period : ℕ) → share_of passes load c period ≤ c
+share_within passes load c period = (share_is passes load c period).within
+
+-- for one turn of the four steps
+pub ruleset one_turn = (turn, share_within)

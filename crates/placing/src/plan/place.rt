@@ -18,7 +18,8 @@ use model::table::check;
 use rules::load::Member;
 use rules::rule::PassingRule;
 
-// What is done with a stage on the present core.
+// What is done with a stage on the present core. The four words stay data for one `match`: they are the
+// subject's own, and a trait or a closure for each would tell one decision in four places.
 #[derive(Clone, Copy)]
 enum Step {
     // it joins the load
@@ -48,6 +49,7 @@ fn step_for(share: u32, cost: u32, is_last: bool) -> Step
 
 impl CoreLoad {
     // Finds a stage its place, on this core or on those after it.
+    #[tactic(auto, using(crate::proofs::Steps::one_turn))]
     fn place_stage<R: PassingRule>(&mut self, rule: &R, stage: &Stage) -> Result<Placement, Cause>
         requires some { 1 ≤ stage.now.cost }
         ensures leaves { Leaves (place_stage (R.PassingRule.passes rule.now) (self.old.cores - self.old.core) self.old.core self.old.members.items stage.now) result self.new }
