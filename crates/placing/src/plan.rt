@@ -24,7 +24,8 @@ pub struct Plan {
 impl Plan {
     // The plan with no cores and no stages.
     pub fn empty() -> Plan
-        ensures { (result.cores ≡ 0) × (result.placements.items ≡ []) }
+        ensures cores { result.cores ≡ 0 }
+        ensures placements { result.placements.items ≡ [] }
     {
         Plan {
             cores: 0,
