@@ -1,5 +1,5 @@
 -- Plans that are sound.
-use Rattle.std.proofs.Common.{◌≡◌, ℕ, ◌≤◌, List, [], length, Ok, Err, Result, refl, arith}
+use Rattle.std.proofs.Common.{ℕ, ◌≤◌, List, length}
 use mathlib.Core.Bool.{Bool-set}
 use mathlib.Core.HLevel.{Π_prop}
 use mathlib.Core.Logic.{∥∥₁_elim}
@@ -7,16 +7,10 @@ use native.Mathlib.Bridge.{le_prop}
 use native.Mathlib.Nat.{ℕ_set}
 use Rattle.rules.specs.declared.load.Member.{Member}
 use Rattle.rules.specs.Timing.{Timely}
-use Rattle.std.proofs.lemmas.List.{length-take}
 use Rattle.placing.specs.declared.plan.Plan.{Plan}
-use Rattle.model.specs.declared.fault.Fault.{Fault}
-use Rattle.placing.specs.Plans.{Layout, placements_of, laid_out, place_answer, place_layout}
+use Rattle.placing.specs.Plans.{placements_of}
 use Rattle.placing.specs.declared.placement.Placement.{Placement}
 use Rattle.placing.specs.Sound.{SoundPlacement, Sound}
-
--- the empty plan
-pub sound_none : (cores : ℕ) → Sound cores []
-sound_none cores = record { each = λ i lt. absurd (omega arith); legal = λ j lt. absurd (omega arith); timely = λ j lt. absurd (omega arith) }
 
 timely_prop : (l : List Member) → IsProp (Timely l)
 timely_prop l = Π_prop λ r. Π_prop λ periodic. Π_prop λ i. Π_prop λ h. Π_prop λ t. Π_prop λ fresh. Π_prop λ o. ℕ_set _ _
@@ -50,13 +44,4 @@ pub plan_sound : (p : Plan) → Sound p.cores (placements_of p)
 plan_sound p = sound_out p.cores (placements_of p) p.sound
 
 pub plan_few : (p : Plan) → length (placements_of p) ≤ 64
-plan_few p = let h = p.few in omega (arith, length-take p.count p.placements)
-
--- a call that answers what is laid out answers and leaves what placing does
-pub place_refused : (m : ℕ) (x : Result (List Placement) Fault) (before : Layout) (f : Fault) → Err f ≡ laid_out m x → (Err f ≡ place_answer x) × (before ≡ place_layout x m before)
-place_refused m (Ok ps) before f e = let z : ◌≡◌ {A = ℕ} 0 1 = cc in absurd (omega arith)
-place_refused m (Err g) before f e = (cc, refl)
-
-pub place_filled : (m : ℕ) (x : Result (List Placement) Fault) (before after : Layout) → Ok after ≡ laid_out m x → (Ok tt ≡ place_answer x) × (after ≡ place_layout x m before)
-place_filled m (Ok ps) before after e = (refl, cc)
-place_filled m (Err g) before after e = let z : ◌≡◌ {A = ℕ} 0 1 = cc in absurd (omega arith)
+plan_few p = p.few

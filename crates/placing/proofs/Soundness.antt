@@ -182,13 +182,33 @@ module _ (passes : List Member → Bool) (cores : ℕ) where
   stages_laid (s ∷ ss) k core load ps all r =
       ends_and_then ps (place_stage passes (cores - core) core load s) k _ (λ l e. stages_laid ss (k + 1) l.core l.load (ps ++ (l.placement ∷ [])) (λ i lt. all (suc i) (omega arith)) (going_place_stage (cores - core) core load s ps (all 0 (omega arith)) (omega (arith, r.within)) r l e))
 
+  -- each stage has one placement
+  abbrev Many : ℕ → Result (List Placement) Fault → Type 0
+  Many n (Ok qs) = length qs ≡ n
+  Many n (Err f) = Unit {0}
+
+  many_behind : (n : ℕ) (p : Placement) (x : Result (List Placement) Fault) → Many n x → Many (suc n) (behind (p ∷ []) x)
+  many_behind n p (Ok qs) h = ap suc h
+  many_behind n p (Err f) h = tt
+
+  many_and_then : (n : ℕ) (x : Result Placed Cause) (k : ℕ) (rest : Placed → Result (List Placement) Fault) → ((l : Placed) → Many n (rest l)) → Many (suc n) (and_then x k rest)
+  many_and_then n (Ok l) k rest h = many_behind n l.placement (rest l) (h l)
+  many_and_then n (Err e) k rest h = tt
+
+  many_stages : (ss : List Stage) (k core : ℕ) (load : List Member) → Many (length ss) (place_stages passes cores k core load ss)
+  many_stages [] k core load = refl
+  many_stages (s ∷ ss) k core load = many_and_then (length ss) (place_stage passes (cores - core) core load s) k _ (λ l. many_stages ss (k + 1) l.core l.load)
+
+  pub stages_many : (ss : List Stage) (qs : List Placement) → Ok qs ≡ place_stages passes cores 1 1 [] ss → length qs ≡ length ss
+  stages_many ss qs e = subst (Many (length ss)) (sym e) (many_stages ss 1 1 [])
+
   fine_passes : (l : List Member) → 0 < length l → fine l ≡ true → passes l ≡ true
   fine_passes [] lt h = absurd (omega arith)
   fine_passes (m ∷ l) lt h = h
 
-  pub stages_sound : ((l : List Member) → passes l ≡ true → lawful l ≡ true) → ((l : List Member) → passes l ≡ true → Timely l) → 1 ≤ cores → (ss : List Stage) (qs : List Placement) → Lawfuls ss → place_stages passes cores 1 1 [] ss ≡ Ok qs → Sound cores qs
+  pub stages_sound : ((l : List Member) → passes l ≡ true → lawful l ≡ true) → ((l : List Member) → passes l ≡ true → Timely l) → 1 ≤ cores → (ss : List Stage) (qs : List Placement) → Lawfuls ss → Ok qs ≡ place_stages passes cores 1 1 [] ss → Sound cores qs
   stages_sound lawful-only timely one ss qs all e =
-      let y : Laid qs = stages_laid ss 1 1 [] [] all (record { each = λ i lt. absurd (omega arith); from_one = omega arith; within = one; here = refl; above = λ j h. refl; all_fine = λ j. refl }) qs e in
+      let y : Laid qs = stages_laid ss 1 1 [] [] all (record { each = λ i lt. absurd (omega arith); from_one = omega arith; within = one; here = refl; above = λ j h. refl; all_fine = λ j. refl }) qs (sym e) in
       record {
         each = y.each;
         legal = λ j lt. lawful-only (load_on qs j) (fine_passes (load_on qs j) lt (y.all_fine j));

@@ -1,11 +1,12 @@
 -- A plan by what it keeps, and what placing answers and leaves.
-use Rattle.std.specs.Prelude.{ℕ, List, take, Ok, Err, Result}
+use Rattle.std.specs.Prelude.{ℕ, List, Ok, Err, Result}
+use Rattle.arrayvec.specs.ArrayVec.{ArrayVec}
 use Rattle.model.specs.declared.fault.Fault.{Fault}
 use Rattle.placing.specs.declared.placement.Placement.{Placement}
 use Rattle.placing.specs.declared.plan.Plan.{Plan}
 
 abbrev pub placements_of : Plan → List Placement
-placements_of p = take p.count p.placements
+placements_of p = p.placements.items
 
 -- the core count and the placements in the order of the table
 pub record Layout : Type 0 where
@@ -14,6 +15,11 @@ pub record Layout : Type 0 where
 
 abbrev pub layout_of : Plan → Layout
 layout_of p = record { cores = p.cores; placements = placements_of p }
+
+-- gathered placements as a list, or why they are not
+abbrev pub seated : Result (ArrayVec Placement) Fault → Result (List Placement) Fault
+seated (Ok ps) = Ok ps.items
+seated (Err f) = Err f
 
 -- a plan that may have been refused, by what it keeps
 abbrev pub kept : Result Plan Fault → Result Layout Fault

@@ -1,7 +1,11 @@
 // Where one stage is placed.
-use model::limits::NAME_BYTES;
+ghost use Rattle.std.specs.Prelude.{◌≡◌};
+ghost use Rattle.placing.specs.Placements.{seat};
 
-#[derive(Clone, Copy, PartialEq, Eq, Debug)]
+use model::limits::NAME_BYTES;
+use model::stage::Stage;
+
+#[derive(Clone, Copy, Default, PartialEq, Eq, Debug)]
 pub struct Placement {
     pub name: [u8; NAME_BYTES],
     pub cost: u32,
@@ -12,4 +16,20 @@ pub struct Placement {
     pub first: u32,
     // its share on the core after: 0, if it is not split
     pub second: u32,
+}
+
+impl Placement {
+    // A stage with its first share on a core and its second on the core after.
+    pub(crate) fn seat(stage: &Stage, core: usize, first: u32, second: u32) -> Placement
+        ensures { result ≡ seat stage.now core first second }
+    {
+        Placement {
+            name: stage.name,
+            cost: stage.cost,
+            period: stage.period,
+            core,
+            first,
+            second,
+        }
+    }
 }

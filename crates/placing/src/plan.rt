@@ -1,44 +1,35 @@
 // A plan: what placing has made of a table.
-ghost use Rattle.std.specs.Prelude.{◌≡◌, ◌≤◌, length, take};
+ghost use Rattle.std.specs.Prelude.{◌≡◌, ◌≤◌, [], length};
 ghost use Rattle.model.specs.Limits.{review_box};
 ghost use Rattle.placing.specs.Sound.{Sound};
 
 use crate::placement::Placement;
-use model::limits::{MOST_STAGES, NAME_BYTES};
+use arrayvec::ArrayVec;
+use model::limits::MOST_STAGES;
 
 mod core_load;
 mod place;
-
-const NOWHERE: Placement = Placement {
-    name: [0; NAME_BYTES],
-    cost: 0,
-    period: 0,
-    core: 0,
-    first: 0,
-    second: 0,
-};
 
 // A plan is had in three ways only: empty, filled by placing, or back from a run that is closed.
 // What its type says of it holds whatever rule placed it.
 #[derive(Drop)]
 pub struct Plan {
     cores: usize,
-    count: usize,
-    placements: [Placement; MOST_STAGES],
+    placements: ArrayVec<Placement, MOST_STAGES>,
     ghost narrow: { cores ≤ review_box.cores },
-    ghost few: { count ≤ review_box.stages },
-    ghost sound: { ∥ Sound cores (take count placements) ∥₁ },
+    ghost few: { length placements.items ≤ review_box.stages },
+    ghost sound: { ∥ Sound cores placements.items ∥₁ },
 }
 
 impl Plan {
     // The plan with no cores and no stages.
     pub fn empty() -> Plan
-        ensures { (result.cores ≡ 0) × (result.count ≡ 0) }
+        ensures cores { result.cores ≡ 0 }
+        ensures placements { result.placements.items ≡ [] }
     {
         Plan {
             cores: 0,
-            count: 0,
-            placements: [NOWHERE; MOST_STAGES],
+            placements: ArrayVec::new(),
         }
     }
 
@@ -50,8 +41,8 @@ impl Plan {
 
     // The placements of the stages, in the order of the table.
     pub fn placements(&self) -> &[Placement]
-        ensures { result.now ≡ take self.now.count self.now.placements }
+        ensures { result.now ≡ self.now.placements.items }
     {
-        &self.placements[0..self.count]
+        &self.placements
     }
 }

@@ -7,7 +7,7 @@ use model::limits::REVIEW_BOX;
 
 // A member of a load: in each of its periods it may ask for its cost. The core before keeps it back
 // in at most `hold` ticks of each period. All are told in ticks.
-#[derive(Clone, Copy, Debug, PartialEq, Eq)]
+#[derive(Clone, Copy, Debug, Default, PartialEq, Eq)]
 pub struct Member {
     pub cost: u32,
     pub period: u32,
