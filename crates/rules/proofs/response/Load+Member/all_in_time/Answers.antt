@@ -1,21 +1,21 @@
-use Rattle.std.proofs.Common.{◌-◌, take, is_some, ap, arith, rules}
+use Rattle.std.proofs.Common.{take, is_some, ap, arith, rules}
 use native.Mathlib.Nat.{sub-zero}
 use Rattle.std.proofs.lemmas.List.{at_drop_all}
 use Rattle.rules.specs.Loads.{member}
 use Rattle.rules.specs.Rules.{covered, all_covered}
-use Rattle.rules.proofs.Small.{take_modest}
+use Rattle.rules.proofs.Small.{modest_members}
 use Rattle.rules.proofs.ResponseShare.{covered_next}
-use Rattle.rules.proofs.response.all_in_time.Goals as goal
+use Rattle.rules.proofs.response.Load+Member.all_in_time.Goals as goal
 
 pub covering_moment-requires : goal.covering_moment-requires
 covering_moment-requires c =
     let i = c.loop-i.i in
-    let m = c.requires.each i c.loop-i-test.true in
-    record { few = take_modest c.args.load.now (i - 0) c.requires; small = omega (arith, m.kept.most, m.kept.fits, m.held); short = m.kept.most }
+    let m = (modest_members c.args.self.now.members.now c.args.self.now.modest).each i c.loop-i-test.true in
+    record { small = omega (arith, m.kept.most, m.kept.fits, m.held); short = m.kept.most }
 
 pub loop-i-preserved : goal.loop-i-preserved
 loop-i-preserved c =
-    let l = c.args.load.now in
+    let l = c.args.self.now.members.now in
     let i = c.loop-i.i in
     let next = covered_next l i c.loop-i-test.true in
     let found = ap is_some c.covering_moment.ensures in
@@ -24,7 +24,7 @@ loop-i-preserved c =
 
 pub returns-then-is_none : goal.returns-then-is_none
 returns-then-is_none c =
-    let l = c.args.load.now in
+    let l = c.args.self.now.members.now in
     let i = c.loop-i.i in
     let next = covered_next l i c.loop-i-test.true in
     let found = ap is_some c.covering_moment.ensures in
@@ -33,5 +33,5 @@ returns-then-is_none c =
 
 pub returns : goal.returns
 returns c =
-    let none = at_drop_all (all_covered (take c.loop-i.i c.args.load.now)) c.args.load.now c.loop-i.i c.loop-i-test.false in
+    let none = at_drop_all (all_covered (take c.loop-i.i c.args.self.now.members.now)) c.args.self.now.members.now c.loop-i.i c.loop-i-test.false in
     search rules

@@ -3,14 +3,18 @@ use Rattle.std.proofs.lemmas.Bool.{le-leb, cases_lt}
 use Rattle.rules.specs.Rules.{interference, covers}
 use Rattle.rules.specs.Moments.{least_none, least_found}
 use Rattle.rules.specs.Asked.{between_none, interference_small}
-use Rattle.rules.proofs.response.covering_moment.Goals as goal
+use Rattle.rules.proofs.Small.{modest_members}
+use Rattle.rules.proofs.response.Load+Member.covering_moment.Goals as goal
 
 pub overflow_add-demand : goal.overflow_add-demand
-overflow_add-demand c = omega (arith, interference_small c.args.before.now c.loop-t.t c.requires.few (omega arith))
+overflow_add-demand c =
+    let l = c.args.self.now.members.now in
+    let all = modest_members l c.args.self.now.modest in
+    omega (arith, interference_small l c.loop-t.t all (omega arith), all.few)
 
 pub returns-then-demand-t : goal.returns-then-demand-t
 returns-then-demand-t c =
-    let l = c.args.before.now in
+    let l = c.args.self.now.members.now in
     let own = c.args.own in
     let t = c.loop-t.t in
     let is = c.interference.ensures in
@@ -18,7 +22,7 @@ returns-then-demand-t c =
 
 pub loop-t-preserved : goal.loop-t-preserved
 loop-t-preserved c =
-    let l = c.args.before.now in
+    let l = c.args.self.now.members.now in
     let own = c.args.own in
     let t = c.loop-t.t in
     let is = c.interference.ensures in (
@@ -31,4 +35,4 @@ loop-t-preserved c =
     )
 
 pub returns : goal.returns
-returns c = least_none (covers c.args.before.now c.args.own) c.args.limit (λ s some le. c.loop-t.invariant.1 s some (omega arith))
+returns c = least_none (covers c.args.self.now.members.now c.args.own) c.args.limit (λ s some le. c.loop-t.invariant.1 s some (omega arith))
