@@ -28,14 +28,6 @@ front_modest l m h =
       each = λ i lt. subst Modest (get_or_append_left l (m ∷ []) nobody i lt) (modest_at (l ++ (m ∷ [])) h i (omega arith));
     }
 
-pub take_modest : (l : List Member) (n : ℕ) → AllModest l → AllModest (take n l)
-take_modest l n h =
-    let short = length-take n l in
-    record {
-      few = omega (arith, h.few);
-      each = λ i lt. subst Modest (sym (get_or-take n l i nobody (omega arith))) (h.each i (omega arith));
-    }
-
 pub single_modest : (cost period hold : ℕ) → lawful (single cost period hold) ≡ true → Modest (record { cost = cost; period = period; hold = hold })
 single_modest cost period hold h = modest_at (single cost period hold) h 0 (omega arith)
 

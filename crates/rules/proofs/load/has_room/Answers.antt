@@ -4,15 +4,6 @@ use Rattle.rules.specs.Loads.{lawful, joined, nobody, within_limits}
 use Rattle.rules.proofs.Orderly.{room_none, no_room, room_at}
 use Rattle.rules.proofs.load.has_room.Goals as goal
 
-pub returns-in_default : goal.returns-in_default
-returns-in_default c =
-    let short = c.in_default.ensures.item.3 in
-    let none : c.args.load.now ≡ [] = nil_from_length c.args.load.now (omega arith) in
-    c.is_within.ensures ∙ ap within_limits c.newcomer-next.ensures ∙ room_none c.args.period ∙ ap (λ l. lawful (joined l 1 c.args.period)) (sym none)
-
-pub returns-then-load : goal.returns-then-load
-returns-then-load c = search (rules, no_room)
-
 pub returns-then-may_follow : goal.returns-then-may_follow
 returns-then-may_follow c =
     let item = c.in-Some.ensures.item.3 in

@@ -12,13 +12,8 @@ small c =
     let is = c.use_of-sum.ensures in
     omega (arith, use_small (member c.args.self.now.members.now c.loop-m.m-index) ((modest_members c.args.self.now.members.now c.args.self.now.modest).each c.loop-m.m-index c.loop-m-test.true))
 
-pub overflow_add-sum : goal.overflow_add-sum
-overflow_add-sum c = omega (arith, small c, (modest_members c.args.self.now.members.now c.args.self.now.modest).few)
-
 pub loop-m-preserved : goal.loop-m-preserved
 loop-m-preserved c =
     let is = c.use_of-sum.ensures in
     (omega (arith, sum_by_more use_of c.args.self.now.members.now c.loop-m.m-index nobody c.loop-m-test.true), omega (arith, small c))
 
-pub returns : goal.returns
-returns c = c.loop-m.invariant.0 ∙ ap uses (take_all _ _ c.loop-m-test.false)

@@ -23,9 +23,3 @@ returns-then-m-before-ne0 g c =
     let more = at_drop_more (chained_from c.loop-item.before) l c.loop-item.item-index nobody item.inside in
     grind (arith, nat_tests)
 
-pub returns : goal.returns
-returns g c =
-    let l = map g.T.AsMember.member_of c.args.self.now.members.now in
-    let long = length-map c.args.self.now.members.now g.T.AsMember.member_of in
-    let none = at_drop_all (chained_from c.loop-item.before) l c.loop-item.item-index (omega arith) in
-    grind (arith, nat_tests)

@@ -27,8 +27,3 @@ loop-item-preserved g c =
       omega arith,
     )
 
-pub returns : goal.returns
-returns g c =
-    let l = map g.T.AsMember.member_of c.args.self.now.members.now in
-    let long = length-map c.args.self.now.members.now g.T.AsMember.member_of in
-    c.loop-item.invariant.0 ∙ ap (work_in c.args.ticks) (take_all c.loop-item.item-index l (omega arith))

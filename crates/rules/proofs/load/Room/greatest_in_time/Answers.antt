@@ -4,12 +4,6 @@ use Rattle.rules.proofs.Greatest.{greatest_is}
 use Rattle.rules.specs.Asked.{uncovered_more}
 use Rattle.rules.proofs.load.Room.greatest_in_time.Goals as goal
 
-pub loop-low-preserved-then-is_some : goal.loop-low-preserved-then-is_some
-loop-low-preserved-then-is_some c =
-    let middle = c.loop-low.high - (c.loop-low.high - c.loop-low.low) / 2 in
-    let is = ap is_some c.covering_moment.ensures in
-    (omega arith, c.loop-low.invariant.1, (λ some. sym is ∙ sym c.is_some.ensures ∙ c.if-is_some.true), c.loop-low.invariant.3)
-
 pub loop-low-preserved : goal.loop-low-preserved
 loop-low-preserved c =
     let middle = c.loop-low.high - (c.loop-low.high - c.loop-low.low) / 2 in
