@@ -1,6 +1,6 @@
 -- The members of a lawful load are modest.
-use Rattle.std.proofs.Common.{◌≡◌, ℕ, zero, suc, ◌<◌, ◌≤◌, true, List, [], ◌∷◌, ◌++◌, length, take, map, get_or, sym, ap, ◌∙◌, refl, subst, arith}
-use Rattle.std.proofs.lemmas.List.{length_push, length-take, get_or_append_left, get_or-take, get_or_push, map-id, length-map, get_or-map}
+use Rattle.std.proofs.Common.{◌≡◌, ℕ, zero, suc, ◌<◌, ◌≤◌, true, List, [], ◌∷◌, ◌++◌, length, map, get_or, sym, ap, ◌∙◌, refl, subst, arith}
+use Rattle.std.proofs.lemmas.List.{length_push, get_or_append_left, get_or_push, map-id, length-map, get_or-map}
 use Rattle.std.proofs.lemmas.Bool.{leb-true, eqb-true}
 use Rattle.rules.specs.declared.load.Member.{Member}
 use Rattle.rules.specs.Loads.{lawful, unheld, member, nobody, joined, single, newcomer}

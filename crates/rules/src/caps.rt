@@ -26,7 +26,8 @@ pub struct CountCap<R> {
     pub below: R,
 }
 
-// The part of the core that a member uses, in millionths, rounded up.
+// The part of the core that a member uses, in millionths, rounded up. A clause says that the member is
+// within the limits: it comes from a load or by itself, and a type for one member would be no plainer.
 fn use_of(m: &Member) -> u32
     requires { Modest m.now }
     ensures { result ≡ use_of m.now }

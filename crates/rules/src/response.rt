@@ -14,7 +14,8 @@ use crate::rule::PassingRule;
 #[derive(Clone, Copy, Debug)]
 pub struct Response;
 
-// How often a member can ask for its cost in `t` ticks.
+// How often a member can ask for its cost in `t` ticks. That `t` is short stands in a clause here and
+// below: a type for it would be made anew at each step of the walk, which is no plainer.
 fn releases(m: &Member, t: u32) -> u32
     requires modest { Modest m.now }
     requires short { t ≤ review_box.longest }

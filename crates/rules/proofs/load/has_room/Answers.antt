@@ -1,7 +1,6 @@
-use Rattle.std.proofs.Common.{◌≡◌, [], sym, ap, ◌∙◌, arith, rules}
-use Rattle.std.proofs.lemmas.List.{nil_from_length}
-use Rattle.rules.specs.Loads.{lawful, joined, nobody, within_limits}
-use Rattle.rules.proofs.Orderly.{room_none, no_room, room_at}
+use Rattle.std.proofs.Common.{arith, rules}
+use Rattle.rules.specs.Loads.{nobody}
+use Rattle.rules.proofs.Orderly.{room_at}
 use Rattle.rules.proofs.load.has_room.Goals as goal
 
 pub returns-then-may_follow : goal.returns-then-may_follow

@@ -1,6 +1,6 @@
 use Rattle.std.proofs.Common.{map, arith}
 use Rattle.std.proofs.lemmas.Bool.Decides.{nat_tests}
-use Rattle.std.proofs.lemmas.List.{length-map, at_drop_more, at_drop_all}
+use Rattle.std.proofs.lemmas.List.{at_drop_more}
 use Rattle.rules.specs.Loads.{nobody}
 use Rattle.rules.proofs.Small.{item_at}
 use Rattle.rules.proofs.HarmonicShare.{chained_from, chained_start}
@@ -22,4 +22,3 @@ returns-then-m-before-ne0 g c =
     let item = item_at g.T.AsMember.member_of c.args.self.now.members.now c.args.self.now.modest c.loop-item-test.true c.item-item.is c.as_member-m.ensures in
     let more = at_drop_more (chained_from c.loop-item.before) l c.loop-item.item-index nobody item.inside in
     grind (arith, nat_tests)
-

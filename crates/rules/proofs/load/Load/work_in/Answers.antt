@@ -1,8 +1,7 @@
-use Rattle.std.proofs.Common.{map, ap, ◌∙◌, arith}
-use Rattle.std.proofs.lemmas.List.{length-map, take_all}
+use Rattle.std.proofs.Common.{map, ap, arith}
 use Rattle.std.proofs.lemmas.List.Sums.{sum_by_more}
 use Rattle.rules.specs.Loads.{nobody}
-use Rattle.rules.specs.Rules.{work, work_in}
+use Rattle.rules.specs.Rules.{work}
 use Rattle.rules.proofs.Small.{item_at}
 use Rattle.rules.proofs.HarmonicShare.{work_small}
 use Rattle.rules.proofs.load.Load.work_in.Goals as goal
@@ -26,4 +25,3 @@ loop-item-preserved g c =
       omega (arith, sum_by_more (work c.args.ticks) l c.loop-item.item-index nobody item.inside, ap (work c.args.ticks) item.is),
       omega arith,
     )
-
