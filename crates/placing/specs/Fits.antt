@@ -1,5 +1,5 @@
 -- When a table whose periods each divide the next fits on so many cores.
-use Rattle.std.specs.Prelude.{◌≡◌, ℕ, ◌*◌, ◌≤◌, Bool, true, cond, ◌↔◌, List, [], ◌∷◌, Ok, Err, Result, nat_le}
+use Rattle.std.specs.Prelude.{◌≡◌, ℕ, ◌*◌, ◌≤◌, Bool, true, cond, ◌↔◌, List, map, Ok, Err, Result, nat_le}
 use Rattle.model.specs.declared.fault.Fault.{Fault}
 use Rattle.model.specs.declared.fault.Layer.{Layer}
 use Rattle.model.specs.declared.stage.Stage.{Stage}
@@ -7,6 +7,7 @@ use Rattle.model.specs.Limits.{review_box}
 use Rattle.model.specs.Lawful.{Lawful}
 use Rattle.model.specs.Tables.{check_of}
 use Rattle.rules.specs.declared.load.Member.{Member}
+use Rattle.rules.specs.Loads.{whole_member}
 use Rattle.rules.specs.Rules.{last_period, chained, work_in, harmonic}
 use Rattle.placing.specs.declared.placement.Placement.{Placement}
 use Rattle.placing.specs.declared.fit.Fit.{Fit}
@@ -14,8 +15,7 @@ use Rattle.placing.specs.Placing.{place_of}
 
 -- the stages as members, whole
 abbrev pub whole_load : List Stage → List Member
-whole_load [] = []
-whole_load (s ∷ ss) = record { cost = s.cost; period = s.period; hold = 0 } ∷ whole_load ss
+whole_load ss = map whole_member ss
 
 abbrev pub in_chain : List Stage → Bool
 in_chain ss = chained (whole_load ss)

@@ -1,13 +1,14 @@
 -- The share under the harmonic rule.
-use Rattle.std.proofs.Common.{◌≡◌, ℕ, ◌+◌, ◌-◌, ◌*◌, ◌/◌, ◌%◌, ◌<◌, ◌≤◌, min, Bool, true, false, ◌&&◌, eqb, leb, List, [], ◌∷◌, ◌++◌, length, drop, sym, refl, ap, ◌∙◌, subst, mul-le-mul_right, mul-one, arith}
+use Rattle.std.proofs.Common.{◌≡◌, ℕ, ◌+◌, ◌-◌, ◌*◌, ◌/◌, ◌%◌, ◌<◌, ◌≤◌, min, Bool, true, false, ◌&&◌, eqb, leb, List, [], ◌∷◌, ◌++◌, sym, refl, ap, ◌∙◌, subst, mul-le-mul_right, mul-one, arith}
 use native.Mathlib.Nat.{mod-one, div_self, mul-div-le}
-use Rattle.std.proofs.lemmas.List.{at_drop_more}
+use mathlib.Core.Bool.{and_assoc, and-true}
 use Rattle.std.proofs.lemmas.List.Sums.{sum_by_push}
 use Rattle.std.proofs.lemmas.Bool.{and_parts, and_from, and_left, and_right, le-leb, lt-leb}
 use Rattle.rules.specs.declared.load.Member.{Member}
-use Rattle.rules.specs.Loads.{lawful, member, nobody, joined, single, newcomer}
+use Rattle.rules.specs.Loads.{lawful, joined, single, newcomer}
 use Rattle.rules.specs.Bounds.{Modest}
 use Rattle.rules.specs.Rules.{share_of, last_period, chained, work, work_in, harmonic}
+use Rattle.rules.specs.Walk.{last_or}
 use Rattle.rules.specs.Lowering.{chained_same}
 use Rattle.rules.specs.Tests.{same_test}
 use Rattle.rules.proofs.Orderly.{room_cost, no_room_cost}
@@ -27,12 +28,11 @@ pub chained_start : (l : List Member) → chained_from 1 l ≡ chained l
 chained_start [] = refl
 chained_start (m ∷ l) = ap (λ n. eqb n 0 && chained_from m.period l) (mod-one m.period) ∙ chained_is m l
 
--- what is left of a load, with the new member behind it
-abbrev pub left_over : ℕ → ℕ → List Member → Bool
-left_over p q l = chained_from q (joined l 1 p)
-
-pub left_more : (p q : ℕ) (l : List Member) (i : ℕ) → i < length l → left_over p q (drop i l) ≡ (eqb ((member l i).period % q) 0 && left_over p (member l i).period (drop (i + 1) l))
-left_more p q l i h = at_drop_more (left_over p q) l i nobody h
+-- a chain goes on to a new member where the last period divides its own
+pub chained_joined : (l : List Member) (c p : ℕ) → chained (joined l c p) ≡ (chained l && eqb (p % last_or 1 l) 0)
+chained_joined [] c p = sym (ap (λ n. eqb n 0) (mod-one p))
+chained_joined (m ∷ []) c p = and-true (eqb (p % m.period) 0)
+chained_joined (m ∷ k ∷ l) c p = ap (λ b. eqb (k.period % m.period) 0 && b) (chained_joined (k ∷ l) c p) ∙ sym (and_assoc (eqb (k.period % m.period) 0) (chained (k ∷ l)) (eqb (p % last_or 1 (k ∷ l)) 0))
 
 pub last_push : (l : List Member) (m : Member) → last_period (l ++ (m ∷ [])) ≡ m.period
 last_push [] m = refl
@@ -68,12 +68,18 @@ module _ (l : List Member) (cost p : ℕ) where
   pub chain_cost : (c : ℕ) → 1 ≤ c → chained (joined l c p) ≡ chained (joined l 1 p)
   chain_cost c some = chained_same (newcomer c p) 1 (omega arith) some l
 
-  pub none_unchained : chained (joined l 1 p) ≡ false → 0 ≡ share_of harmonic l cost p
+  none_unchained : chained (joined l 1 p) ≡ false → 0 ≡ share_of harmonic l cost p
   none_unchained h =
       greatest_none (λ c. harmonic (joined l c p)) cost
       (λ c some.
       let low = joined l c p in
       and_left (lawful low && chained low) (leb (work_in (last_period low) low) (last_period low)) (and_right (lawful low) (chained low) (chain_cost c some ∙ h)))
+
+  pub none_apart : chained l ≡ false → 0 ≡ share_of harmonic l cost p
+  none_apart h = none_unchained (chained_joined l 1 p ∙ and_left (chained l) (eqb (p % last_or 1 l) 0) h)
+
+  pub none_unended : eqb (p % last_or 1 l) 0 ≡ false → 0 ≡ share_of harmonic l cost p
+  none_unended h = none_unchained (chained_joined l 1 p ∙ and_right (chained l) (eqb (p % last_or 1 l) 0) h)
 
   pub harmonic_share : lawful (joined l 1 p) ≡ true → chained (joined l 1 p) ≡ true → min (p - work_in p l) cost ≡ share_of harmonic l cost p
   harmonic_share room chain =

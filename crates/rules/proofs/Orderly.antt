@@ -1,10 +1,10 @@
 -- The test of lawfulness, member by member.
-use Rattle.std.proofs.Common.{◌≡◌, ℕ, ◌+◌, ◌-◌, ◌<◌, ◌≤◌, true, false, ◌&&◌, leb, List, [], ◌∷◌, ◌++◌, length, drop, sym, refl, subst, arith}
+use Rattle.std.proofs.Common.{◌≡◌, ℕ, ◌+◌, ◌-◌, ◌<◌, ◌≤◌, true, false, ◌&&◌, leb, List, [], ◌∷◌, ◌++◌, length, drop, sym, refl, ap, ◌∙◌, subst, arith}
 use Rattle.std.proofs.lemmas.List.{length_push}
 use Rattle.std.proofs.lemmas.Bool.{and_parts, and_from, leb-true, le-leb, false≢true, both_ways}
 use Rattle.rules.specs.declared.load.Member.{Member}
-use Rattle.rules.specs.Loads.{all, within_limits, unheld, rising, lawful, joined, member, newcomer}
-use Rattle.rules.specs.Walk.{may_follow, may_open, orderly}
+use Rattle.rules.specs.Loads.{all, within_limits, unheld, rising, lawful, joined, single, member, newcomer}
+use Rattle.rules.specs.Walk.{may_follow, may_open, orderly, last_or}
 use Rattle.rules.specs.Tests.{same_test, refuted}
 use Rattle.rules.specs.Lawful.{lawful_parts, lawful_from, limits_kept, limits_from}
 use Rattle.rules.specs.Lowering.{lawful_lowered}
@@ -78,14 +78,15 @@ walked_lawful m l w =
       order = and_from (leb 0 m.period) (rising m.period l) (le-leb 0 m.period (omega arith)) o.order;
     })
 
--- the period of the last member, or q
-abbrev pub last_or : ℕ → List Member → ℕ
-last_or q [] = q
-last_or q (m ∷ l) = last_or m.period l
-
 pub last_or_at : (x : Member) (l : List Member) → last_or x.period l ≡ (member (x ∷ l) (length l)).period
 last_or_at x [] = refl
 last_or_at x (y ∷ l) = last_or_at y l
+
+pub last_member : (q : ℕ) (l : List Member) → 1 ≤ length l → (member l (length l - 1)).period ≡ last_or q l
+last_member q [] h = absurd (omega arith)
+last_member q (x ∷ l) h =
+    let here : length (x ∷ l) - 1 ≡ length l = omega arith in
+    ap (λ k. (member (x ∷ l) k).period) here ∙ sym (last_or_at x l)
 
 pub orderly_push : (q : ℕ) (l : List Member) (m : Member) → orderly q l ≡ true → may_follow (last_or q l) m ≡ true → orderly q (l ++ (m ∷ [])) ≡ true
 orderly_push q [] m h f = and_from (may_follow q m) true f refl
@@ -182,3 +183,11 @@ room_cost (x ∷ l) c p some le h =
 pub no_room_cost : (l : List Member) (c p : ℕ) → 1 ≤ c → lawful (joined l 1 p) ≡ false → lawful (joined l c p) ≡ false
 no_room_cost l c p some h =
     refuted (lawful (joined l c p)) (λ e. both_ways (lawful (joined l 1 p)) h (lawful_lowered (newcomer c p) 1 (omega arith) some l e))
+
+-- a load of one member
+pub alone_lawful : (cost period hold : ℕ) → may_open (record { cost = cost; period = period; hold = hold }) ≡ lawful (single cost period hold)
+alone_lawful cost period hold =
+    let m : Member = record { cost = cost; period = period; hold = hold } in
+    same_test (may_open m) (lawful (m ∷ []))
+    (λ e. walked_lawful m [] (record { few = omega arith; opens = e; rest = refl }))
+    (λ e. (walked m [] e).opens)

@@ -1,6 +1,7 @@
 -- Loads: the members on one core, the most urgent first, and which loads are lawful.
 use Rattle.std.specs.Prelude.{ℕ, ◌+◌, Bool, true, false, ◌&&◌, List, [], ◌∷◌, ◌++◌, length, ◌==◌, nat_le, slice_index_or}
 use Rattle.model.specs.Limits.{review_box, times_allowed}
+use Rattle.model.specs.declared.stage.Stage.{Stage}
 use Rattle.rules.specs.declared.load.Member.{Member}
 
 -- what stands past the end of a load
@@ -18,6 +19,10 @@ single cost period hold = record { cost = cost; period = period; hold = hold } �
 -- a member that joins a load behind the others, and so is never held
 abbrev pub newcomer : ℕ → ℕ → Member
 newcomer cost period = record { cost = cost; period = period; hold = 0 }
+
+-- a stage as a member, whole
+abbrev pub whole_member : Stage → Member
+whole_member s = newcomer s.cost s.period
 
 -- the load with one member more at its end
 abbrev pub joined : List Member → ℕ → ℕ → List Member

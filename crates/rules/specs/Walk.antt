@@ -15,3 +15,8 @@ may_follow p m = nat_le p m.period && unheld m && within_limits m
 abbrev pub orderly : ℕ → List Member → Bool
 orderly p [] = true
 orderly p (m ∷ l) = may_follow p m && orderly m.period l
+
+-- the period of the last member, or q
+abbrev pub last_or : ℕ → List Member → ℕ
+last_or q [] = q
+last_or q (m ∷ l) = last_or m.period l

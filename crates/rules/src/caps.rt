@@ -1,12 +1,12 @@
 // Layers on any rule: a cap on the members' uses, and a cap on how many there are.
 ghost use Rattle.std.specs.Prelude.{◌≡◌, nat_le};
-ghost use Rattle.rules.specs.Bounds.{Modest, AllModest};
+ghost use Rattle.rules.specs.Bounds.{Modest};
 ghost use Rattle.rules.specs.Rules.{use_of, uses, use_cap, count_cap};
 ghost use Rattle.std.proofs.lemmas.Bool.{and_parts};
 ghost use Rattle.rules.specs.Lowering.{use_cap_keeps, count_cap_keeps};
 ghost use Rattle.std.proofs.Common.{rules};
 
-use crate::load::Member;
+use crate::load::{Load, Member};
 use crate::rule::PassingRule;
 
 // Uses are told in millionths of the core.
@@ -26,7 +26,8 @@ pub struct CountCap<R> {
     pub below: R,
 }
 
-// The part of the core that a member uses, in millionths, rounded up.
+// The part of the core that a member uses, in millionths, rounded up. A clause says that the member is
+// within the limits: it comes from a load or by itself, and a type for one member would be no plainer.
 fn use_of(m: &Member) -> u32
     requires { Modest m.now }
     ensures { result ≡ use_of m.now }
@@ -34,16 +35,17 @@ fn use_of(m: &Member) -> u32
     (MILLION * m.cost as u64).div_ceil(m.period as u64) as u32
 }
 
-// The sum of the members' uses.
-fn uses_of(load: &[Member]) -> u32
-    requires { AllModest load.now }
-    ensures { result ≡ uses load.now }
-{
-    let mut sum = 0;
-    for m in load {
-        sum += use_of(m);
+impl<'a> Load<'a, Member> {
+    // The sum of the members' uses.
+    fn uses(&self) -> u32
+        ensures { result ≡ uses self.now.members.now }
+    {
+        let mut sum = 0;
+        for m in self.members {
+            sum += use_of(m);
+        }
+        sum
     }
-    sum
 }
 
 impl<R: PassingRule> PassingRule for UseCap<R> {
@@ -61,7 +63,7 @@ impl<R: PassingRule> PassingRule for UseCap<R> {
         if below == 0 {
             return 0;
         }
-        let used = uses_of(load);
+        let used = Load { members: load }.uses();
         if self.most < used {
             return 0;
         }

@@ -3,13 +3,13 @@ use Rattle.std.proofs.lemmas.Bool.Decides.{nat_tests}
 use Rattle.model.specs.Limits.{review_box}
 use Rattle.model.specs.Lawful.{Lawful}
 use Rattle.placing.proofs.HarmonicExact.{harmonic_exact}
-use Rattle.placing.proofs.WholeLoads.{last_is, last_short}
+use Rattle.placing.proofs.WholeLoads.{last_is, whole_modest}
 use Rattle.placing.proofs.fit.harmonic_fit.Goals as goal
 
-pub work_in-work-requires : goal.work_in-work-requires
-work_in-work-requires c =
+pub invariant_of-load : goal.invariant_of-load
+invariant_of-load c =
     let lawful : Lawful review_box c.args.cores c.args.table.now = c.in_ok-check.ensures.exactly.0 refl in
-    record { lawful = lawful.table; few = lawful.most; short = omega (arith, last_short c.args.table.now lawful.table) }
+    record { modest = whole_modest c.args.table.now lawful.table lawful.most }
 
 pub returns-then-work-cores : goal.returns-then-work-cores
 returns-then-work-cores c =

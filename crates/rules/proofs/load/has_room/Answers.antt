@@ -1,17 +1,7 @@
-use Rattle.std.proofs.Common.{◌≡◌, [], sym, ap, ◌∙◌, arith, rules}
-use Rattle.std.proofs.lemmas.List.{nil_from_length}
-use Rattle.rules.specs.Loads.{lawful, joined, nobody}
-use Rattle.rules.proofs.Orderly.{room_none, no_room, room_at}
+use Rattle.std.proofs.Common.{arith, rules}
+use Rattle.rules.specs.Loads.{nobody}
+use Rattle.rules.proofs.Orderly.{room_at}
 use Rattle.rules.proofs.load.has_room.Goals as goal
-
-pub returns-in_default : goal.returns-in_default
-returns-in_default c =
-    let short = c.in_default.ensures.item.3 in
-    let none : c.args.load.now ≡ [] = nil_from_length c.args.load.now (omega arith) in
-    c.within.ensures ∙ room_none c.args.period ∙ ap (λ l. lawful (joined l 1 c.args.period)) (sym none)
-
-pub returns-then-load : goal.returns-then-load
-returns-then-load c = search (rules, no_room)
 
 pub returns-then-may_follow : goal.returns-then-may_follow
 returns-then-may_follow c =

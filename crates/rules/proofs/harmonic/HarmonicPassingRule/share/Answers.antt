@@ -1,27 +1,28 @@
-use Rattle.std.proofs.Common.{sym, rules}
-use Rattle.rules.specs.Loads.{newcomer}
-use Rattle.rules.proofs.Small.{front_modest, joined_kept}
-use Rattle.rules.proofs.HarmonicShare.{none_unlawful, none_unchained, harmonic_share}
+use Rattle.std.proofs.Common.{◌≡◌, ◌%◌, true, eqb, sym, ap, ◌∙◌, rules}
+use Rattle.std.proofs.lemmas.Bool.{and_from}
+use Rattle.std.proofs.lemmas.List.{map-id}
+use Rattle.rules.specs.Rules.{chained}
+use Rattle.rules.specs.Walk.{last_or}
+use Rattle.rules.proofs.HarmonicShare.{none_unlawful, none_apart, none_unended, chained_joined, harmonic_share}
 use Rattle.rules.proofs.harmonic.HarmonicPassingRule.share.Goals as goal
 
-pub returns-then-not-has_room : goal.returns-then-not-has_room
-returns-then-not-has_room c = search (rules, none_unlawful)
-
-pub is_chained-requires : goal.is_chained-requires
-is_chained-requires c = front_modest c.args.load.now (newcomer 1 c.args.period) (sym c.if-not-has_room.ensures)
+pub returns-in_default : goal.returns-in_default
+returns-in_default c = search (rules, none_unlawful)
 
 pub returns-then-not-is_chained : goal.returns-then-not-is_chained
-returns-then-not-is_chained c = search (rules, none_unchained)
+returns-then-not-is_chained c =
+    let same = map-id c.in-Some.room.load.members.now in
+    search (rules, none_apart)
 
-pub work_of-requires : goal.work_of-requires
-work_of-requires c =
-    let room = sym c.if-not-has_room.ensures in
-    record {
-      few = front_modest c.args.load.now (newcomer 1 c.args.period) room;
-      short = (joined_kept c.args.load.now 1 c.args.period room).most;
-    }
+pub returns-then-not-ends_chain : goal.returns-then-not-ends_chain
+returns-then-not-ends_chain c = search (rules, none_unended)
 
 pub returns : goal.returns
 returns c =
-    let share = harmonic_share c.args.load.now c.args.cost c.args.period (sym c.if-not-has_room.ensures) (sym c.if-not-is_chained.ensures) in
+    let room = c.in-Some.room in
+    let l = room.load.members.now in
+    let same = map-id l in
+    let linked : chained l ≡ true = ap chained (sym same) ∙ sym c.if-not-is_chained.ensures in
+    let chain = chained_joined l 1 room.period ∙ and_from (chained l) (eqb (room.period % last_or 1 l) 0) linked (sym c.if-not-ends_chain.ensures) in
+    let share = harmonic_share l c.args.cost room.period room.lawful chain in
     search rules

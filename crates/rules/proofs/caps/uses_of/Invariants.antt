@@ -1,6 +1,0 @@
-use Rattle.std.proofs.Common.{◌≡◌, ◌*◌, ◌≤◌, take}
-use Rattle.rules.specs.Rules.{uses}
-use Rattle.rules.proofs.caps.uses_of.Given as goal
-
-abbrev pub invariant-loop-m : goal.invariant-loop-m
-invariant-loop-m l = (l.sum ≡ uses (take l.m-index l.load)) × (l.sum ≤ 1000000 * l.m-index)
