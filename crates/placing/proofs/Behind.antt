@@ -7,9 +7,9 @@ use Rattle.std.proofs.lemmas.Bool.{and_parts, and_from, le-leb, eq-eqb}
 use Rattle.rules.specs.declared.load.Member.{Member}
 use Rattle.rules.specs.Loads.{nobody, member, joined, within_limits, lawful}
 use Rattle.rules.specs.Rules.{last_period, chained}
-use Rattle.rules.specs.Lawful.{limits_from}
+use Rattle.rules.specs.Lemmas.Lawful.{limits_from}
 use Rattle.rules.proofs.Orderly.{follow_from, room_at, room_none}
-use Rattle.rules.specs.Chain.{divides}
+use Rattle.rules.specs.Lemmas.Chain.{divides}
 
 -- a period within the limits
 pub record Period (p : ℕ) : Type 0 where

@@ -16,9 +16,9 @@ use Rattle.model.proofs.Checks.{answers_exactly}
 use Rattle.rules.specs.declared.load.Member.{Member}
 use Rattle.rules.specs.Loads.{nobody, member, joined, lawful}
 use Rattle.rules.specs.Rules.{last_period, chained, work, work_in, harmonic, share_of}
-use Rattle.rules.specs.Chain.{step, first_divides_last, work_scales}
+use Rattle.rules.specs.Lemmas.Chain.{step, first_divides_last, work_scales}
 use Rattle.rules.proofs.HarmonicShare.{last_push, harmonic_single, harmonic_share, chain_cost}
-use Rattle.rules.specs.Lawful.{limits_from}
+use Rattle.rules.specs.Lemmas.Lawful.{limits_from}
 use Rattle.rules.proofs.Orderly.{room_cost, walked_lawful}
 use Rattle.placing.specs.declared.placement.Placement.{Placement}
 use Rattle.placing.specs.Placing.{Placed, whole, second_part, split, place_stage, behind, and_then, place_stages, once_checked, place_of}

@@ -4,7 +4,7 @@ use Rattle.std.proofs.lemmas.List.{length_push}
 use Rattle.std.proofs.lemmas.Bool.{cases_eq, eq-eqb, ne_eqb, leb-true}
 use Rattle.rules.specs.declared.load.Member.{Member}
 use Rattle.rules.specs.Loads.{joined, lawful, newcomer}
-use Rattle.rules.specs.Lawful.{lawful_parts}
+use Rattle.rules.specs.Lemmas.Lawful.{lawful_parts}
 use Rattle.rules.specs.Rules.{share_of}
 use Rattle.rules.proofs.Greatest.{Greatest, greatest_of}
 use Rattle.model.specs.declared.fault.Cause.{Cause}

@@ -8,8 +8,8 @@ use Rattle.rules.specs.Loads.{lawful, joined, newcomer}
 use Rattle.rules.specs.Bounds.{Kept, Modest, AllModest}
 use Rattle.rules.specs.Rules.{greatest, share_of, use_of, uses, use_cap, count_cap}
 use Rattle.rules.specs.Laws.{LoweringKeeps}
-use Rattle.rules.specs.Tests.{refuted}
-use Rattle.rules.specs.Rounding.{ceil_from, ceil_to}
+use Rattle.rules.specs.Lemmas.Tests.{refuted}
+use Rattle.rules.specs.Lemmas.Rounding.{ceil_from, ceil_to}
 use Rattle.rules.proofs.Greatest.{Greatest, greatest_of, greatest_is, greatest_same, greatest_none}
 use Rattle.rules.proofs.Small.{front_modest, joined_kept}
 

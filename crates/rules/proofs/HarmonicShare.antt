@@ -9,8 +9,8 @@ use Rattle.rules.specs.Loads.{lawful, joined, single, newcomer}
 use Rattle.rules.specs.Bounds.{Modest}
 use Rattle.rules.specs.Rules.{share_of, last_period, chained, work, work_in, harmonic}
 use Rattle.rules.specs.Walk.{last_or}
-use Rattle.rules.specs.Lowering.{chained_same}
-use Rattle.rules.specs.Tests.{same_test}
+use Rattle.rules.specs.Lemmas.Lowering.{chained_same}
+use Rattle.rules.specs.Lemmas.Tests.{same_test}
 use Rattle.rules.proofs.Orderly.{room_cost, no_room_cost}
 use Rattle.rules.proofs.Greatest.{greatest_is, greatest_none}
 use Rattle.rules.proofs.Small.{single_modest, joined_kept}

@@ -5,9 +5,9 @@ use Rattle.std.proofs.lemmas.Bool.{and_parts, and_from, leb-true, le-leb, false�
 use Rattle.rules.specs.declared.load.Member.{Member}
 use Rattle.rules.specs.Loads.{all, within_limits, unheld, rising, lawful, joined, single, member, newcomer}
 use Rattle.rules.specs.Walk.{may_follow, may_open, orderly, last_or}
-use Rattle.rules.specs.Tests.{same_test, refuted}
-use Rattle.rules.specs.Lawful.{lawful_parts, lawful_from, limits_kept, limits_from}
-use Rattle.rules.specs.Lowering.{lawful_lowered}
+use Rattle.rules.specs.Lemmas.Tests.{same_test, refuted}
+use Rattle.rules.specs.Lemmas.Lawful.{lawful_parts, lawful_from, limits_kept, limits_from}
+use Rattle.rules.specs.Lemmas.Lowering.{lawful_lowered}
 
 pub record Followed (p : ℕ) (m : Member) : Type 0 where
   pub rises : leb p m.period ≡ true

@@ -6,11 +6,11 @@ use Rattle.std.proofs.lemmas.Bool.{and_parts, and_from, and_left, and_right, le-
 use Rattle.rules.specs.declared.load.Member.{Member}
 use Rattle.rules.specs.Loads.{lawful, member, nobody, joined, single, newcomer}
 use Rattle.rules.specs.Rules.{greatest, share_of, covers, covered_to, covered, all_covered, response}
-use Rattle.rules.specs.Lawful.{first_fits}
-use Rattle.rules.specs.Tests.{same_test, refuted}
+use Rattle.rules.specs.Lemmas.Lawful.{first_fits}
+use Rattle.rules.specs.Lemmas.Tests.{same_test, refuted}
 use Rattle.rules.proofs.Orderly.{room_cost, no_room_cost}
 use Rattle.rules.proofs.Greatest.{greatest_of, greatest_is, greatest_none}
-use Rattle.rules.specs.Moments.{some_at}
+use Rattle.rules.specs.Lemmas.Moments.{some_at}
 use Rattle.rules.proofs.Small.{single_modest, joined_kept}
 
 covered_push : (before l : List Member) (m : Member) → all_covered before (l ++ (m ∷ [])) ≡ (all_covered before l && covered (before ++ l) m)

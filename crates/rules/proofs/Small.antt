@@ -5,7 +5,7 @@ use Rattle.std.proofs.lemmas.Bool.{leb-true, eqb-true}
 use Rattle.rules.specs.declared.load.Member.{Member}
 use Rattle.rules.specs.Loads.{lawful, unheld, member, nobody, joined, single, newcomer}
 use Rattle.rules.specs.Bounds.{Kept, Modest, AllModest}
-use Rattle.rules.specs.Lawful.{member_kept, lawful_parts, all_at, first_fits}
+use Rattle.rules.specs.Lemmas.Lawful.{member_kept, lawful_parts, all_at, first_fits}
 
 held_at : (l : List Member) → lawful l ≡ true → (i : ℕ) → i < length l → (member l i).hold ≤ (member l i).period
 held_at [] h i lt = absurd (omega arith)

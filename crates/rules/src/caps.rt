@@ -3,7 +3,7 @@ ghost use Rattle.std.specs.Prelude.{◌≡◌, nat_le};
 ghost use Rattle.rules.specs.Bounds.{Modest};
 ghost use Rattle.rules.specs.Rules.{use_of, uses, use_cap, count_cap};
 ghost use Rattle.std.proofs.lemmas.Bool.{and_parts};
-ghost use Rattle.rules.specs.Lowering.{use_cap_keeps, count_cap_keeps};
+ghost use Rattle.rules.specs.Lemmas.Lowering.{use_cap_keeps, count_cap_keeps};
 ghost use Rattle.std.proofs.Common.{rules};
 
 use crate::load::{Load, Member};

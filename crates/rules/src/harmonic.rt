@@ -2,8 +2,8 @@
 ghost use Rattle.std.specs.Prelude.{◌≡◌, ◌%◌, ◌==◌, map};
 ghost use Rattle.rules.specs.Rules.{chained, work_in, harmonic};
 ghost use Rattle.rules.specs.Walk.{last_or};
-ghost use Rattle.rules.specs.Lowering.{harmonic_keeps};
-ghost use Rattle.rules.specs.HarmonicTimely.{timely_harmonic};
+ghost use Rattle.rules.specs.Lemmas.Lowering.{harmonic_keeps};
+ghost use Rattle.rules.specs.Lemmas.HarmonicTimely.{timely_harmonic};
 ghost use Rattle.std.proofs.Common.{rules};
 
 use crate::load::{AsMember, Load, Member, Room};

@@ -3,8 +3,8 @@ ghost use Rattle.std.specs.Prelude.{◌≡◌, ◌+◌, ◌*◌, ◌≤◌, min,
 ghost use Rattle.model.specs.Limits.{review_box};
 ghost use Rattle.rules.specs.Bounds.{Modest};
 ghost use Rattle.rules.specs.Rules.{rounded_up, interference, covers, least_moment, all_covered, covered_to, greatest, response};
-ghost use Rattle.rules.specs.Lowering.{response_keeps};
-ghost use Rattle.rules.specs.Passed.{timely_response};
+ghost use Rattle.rules.specs.Lemmas.Lowering.{response_keeps};
+ghost use Rattle.rules.specs.Lemmas.Passed.{timely_response};
 ghost use Rattle.std.proofs.Common.{rules};
 
 use crate::load::{Load, Member, Room};

@@ -15,7 +15,7 @@ use model::fault::{Cause, Fault, Layer};
 use model::limits::{MOST_STAGES, REVIEW_BOX};
 use model::stage::Stage;
 use model::table::check;
-use rules::load::Member;
+use rules::load::{AsMember, Member};
 use rules::rule::PassingRule;
 
 // What is done with a stage on the present core. The four words stay data for one `match`: they are the
@@ -59,11 +59,7 @@ impl CoreLoad {
             let share = rule.share(&self.members, stage.cost, stage.period);
             match step_for(share, stage.cost, self.core == self.cores) {
                 Step::Whole => {
-                    self.members.push(Member {
-                        cost: stage.cost,
-                        period: stage.period,
-                        hold: 0,
-                    });
+                    self.members.push(stage.as_member());
                     return Ok(Placement::seat(stage, self.core, stage.cost, 0));
                 }
                 Step::NoRoom => return Err(Cause::NoRoom),

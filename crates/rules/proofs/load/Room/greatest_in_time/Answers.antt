@@ -1,7 +1,7 @@
 use Rattle.std.proofs.Common.{◌-◌, ◌/◌, min, is_some, sym, ap, ◌∙◌, arith}
 use Rattle.rules.specs.Rules.{covered_to}
 use Rattle.rules.proofs.Greatest.{greatest_is}
-use Rattle.rules.specs.Asked.{uncovered_more}
+use Rattle.rules.specs.Lemmas.Asked.{uncovered_more}
 use Rattle.rules.proofs.load.Room.greatest_in_time.Goals as goal
 
 pub loop-low-preserved : goal.loop-low-preserved

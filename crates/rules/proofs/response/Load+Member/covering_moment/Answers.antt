@@ -1,8 +1,8 @@
 use Rattle.std.proofs.Common.{◌≡◌, ◌+◌, false, ⊎_elim, arith}
 use Rattle.std.proofs.lemmas.Bool.{le-leb, cases_lt}
 use Rattle.rules.specs.Rules.{interference, covers}
-use Rattle.rules.specs.Moments.{least_none, least_found}
-use Rattle.rules.specs.Asked.{between_none, interference_small}
+use Rattle.rules.specs.Lemmas.Moments.{least_none, least_found}
+use Rattle.rules.specs.Lemmas.Asked.{between_none, interference_small}
 use Rattle.rules.proofs.Small.{modest_members}
 use Rattle.rules.proofs.response.Load+Member.covering_moment.Goals as goal
 

@@ -2,7 +2,7 @@ use Rattle.std.proofs.Common.{◌*◌, ap, arith}
 use Rattle.std.proofs.lemmas.List.Sums.{sum_by_more}
 use Rattle.rules.specs.Loads.{member, nobody}
 use Rattle.rules.specs.Rules.{asked}
-use Rattle.rules.specs.Asked.{asked_small}
+use Rattle.rules.specs.Lemmas.Asked.{asked_small}
 use Rattle.rules.proofs.Small.{modest_members}
 use Rattle.rules.proofs.response.Load+Member.interference.Goals as goal
 

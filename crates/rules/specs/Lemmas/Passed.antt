@@ -7,12 +7,12 @@ use Rattle.rules.specs.declared.load.Member.{Member}
 use Rattle.rules.specs.Loads.{lawful, member}
 use Rattle.rules.specs.Timing.{serves, CoreRun, InTime, Timely}
 use Rattle.rules.specs.Rules.{interference, covers, covered, all_covered, response}
-use Rattle.rules.specs.Counts.{count_longer}
-use Rattle.rules.specs.Track.{closes_by}
-use Rattle.rules.specs.Ticks.{track}
-use Rattle.rules.specs.Spacing.{Spaced, periodic_spaced}
-use Rattle.rules.specs.Moments.{found}
-use Rattle.rules.specs.ResponseTimely.{covered_closes}
+use Rattle.rules.specs.Lemmas.Counts.{count_longer}
+use Rattle.rules.specs.Lemmas.Track.{closes_by}
+use Rattle.rules.specs.Lemmas.Ticks.{track}
+use Rattle.rules.specs.Lemmas.Spacing.{Spaced, periodic_spaced}
+use Rattle.rules.specs.Lemmas.Moments.{found}
+use Rattle.rules.specs.Lemmas.ResponseTimely.{covered_closes}
 
 pub covered_at : (before l : List Member) → all_covered before l ≡ true → (i : ℕ) → i < length l → covered (before ++ take i l) (member l i) ≡ true
 covered_at before [] h i lt = absurd (omega arith)

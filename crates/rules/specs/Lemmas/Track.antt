@@ -3,9 +3,9 @@ use Rattle.std.specs.Prelude.{◌≡◌, ℕ, zero, suc, ◌+◌, ◌-◌, ◌*�
 use Rattle.std.proofs.Common.{sym, subst, ⊎_elim, add-zero, add-suc, mul-suc, suc-mul, zero-mul, le_antisymm, arith}
 use Rattle.std.proofs.lemmas.Bool.{cases_Bool, cases_eq, both_ways}
 use Rattle.rules.specs.Timing.{count, since}
-use Rattle.rules.specs.Tests.{refuted}
-use Rattle.rules.specs.Counts.{count_split, count_most, count_longer, count_none}
-use Rattle.rules.specs.Since.{Quiet, at_most, quiet_more, next, Lasts, Job}
+use Rattle.rules.specs.Lemmas.Tests.{refuted}
+use Rattle.rules.specs.Lemmas.Counts.{count_split, count_most, count_longer, count_none}
+use Rattle.rules.specs.Lemmas.Since.{Quiet, at_most, quiet_more, next, Lasts, Job}
 
 -- what a run says of one member
 pub record Track : Type 0 where

@@ -8,10 +8,10 @@ use Rattle.rules.specs.declared.load.Member.{Member}
 use Rattle.rules.specs.Loads.{member, nobody}
 use Rattle.rules.specs.Bounds.{Modest, AllModest}
 use Rattle.rules.specs.Rules.{rounded_up, asked, interference, covers, covered_to}
-use Rattle.rules.specs.Tests.{refuted}
-use Rattle.rules.specs.Rounding.{div_more}
-use Rattle.rules.specs.Sums.{sum_mono}
-use Rattle.rules.specs.Moments.{some_more}
+use Rattle.rules.specs.Lemmas.Tests.{refuted}
+use Rattle.rules.specs.Lemmas.Rounding.{div_more}
+use Rattle.rules.specs.Lemmas.Sums.{sum_mono}
+use Rattle.rules.specs.Lemmas.Moments.{some_more}
 
 -- what is asked for never falls
 pub interference_later : (l : List Member) (s t : ℕ) → s ≤ t → interference l s ≤ interference l t

@@ -9,8 +9,8 @@ use Rattle.std.proofs.lemmas.Bool.{and_parts, leb-true, eqb-true, false≢true}
 use Rattle.rules.specs.declared.load.Member.{Member}
 use Rattle.rules.specs.Loads.{all, within_limits, lawful, member, nobody}
 use Rattle.rules.specs.Rules.{last_period, chained, work, work_in, harmonic}
-use Rattle.rules.specs.Lawful.{limits_kept, lawful_parts, member_kept}
-use Rattle.rules.specs.Sums.{sum_suc}
+use Rattle.rules.specs.Lemmas.Lawful.{limits_kept, lawful_parts, member_kept}
+use Rattle.rules.specs.Lemmas.Sums.{sum_suc}
 
 pub step : (m k : Member) (l : List Member) → chained (m ∷ k ∷ l) ≡ true → (m.period ∣ k.period) × (chained (k ∷ l) ≡ true)
 step m k l h =

@@ -8,9 +8,9 @@ use Rattle.rules.specs.declared.load.Member.{Member}
 use Rattle.rules.specs.Loads.{all, within_limits, unheld, rising, lawful}
 use Rattle.rules.specs.Rules.{covered, all_covered, response, last_period, chained, work, work_in, harmonic, use_of, uses, use_cap, count_cap}
 use Rattle.rules.specs.Laws.{at_cost, LoweringKeeps}
-use Rattle.rules.specs.Lawful.{lawful_parts, lawful_from, limits_kept, limits_from}
-use Rattle.rules.specs.Rounding.{div_more}
-use Rattle.rules.specs.Asked.{covered_less}
+use Rattle.rules.specs.Lemmas.Lawful.{lawful_parts, lawful_from, limits_kept, limits_from}
+use Rattle.rules.specs.Lemmas.Rounding.{div_more}
+use Rattle.rules.specs.Lemmas.Asked.{covered_less}
 
 module _ (m : Member) (c : ℕ) (some : 1 ≤ c) (less : c ≤ m.cost) where
   abbrev m' : Member

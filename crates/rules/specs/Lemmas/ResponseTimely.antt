@@ -6,15 +6,15 @@ use Rattle.rules.specs.declared.load.Member.{Member}
 use Rattle.rules.specs.Loads.{lawful, member}
 use Rattle.rules.specs.Timing.{count, serves, CoreRun, ClosesWithin}
 use Rattle.rules.specs.Rules.{rounded_up, asked, interference}
-use Rattle.rules.specs.Spacing.{Spaced}
-use Rattle.rules.specs.Counts.{count_split, count_longer, count_all, count_none, count_either}
-use Rattle.rules.specs.Since.{at_most, Lasts, Job}
-use Rattle.rules.specs.Track.{in_window, closes_by}
-use Rattle.rules.specs.Rounding.{rounded_reaches}
-use Rattle.rules.specs.Lawful.{member_kept}
-use Rattle.rules.specs.Ticks.{busy, busy_count, busy_open, busy_more, not_served, idle, first_open, track}
-use Rattle.rules.specs.Sums.{sum_suc}
-use Rattle.rules.specs.Start.{Edge, Stretch, stretch}
+use Rattle.rules.specs.Lemmas.Spacing.{Spaced}
+use Rattle.rules.specs.Lemmas.Counts.{count_split, count_longer, count_all, count_none, count_either}
+use Rattle.rules.specs.Lemmas.Since.{at_most, Lasts, Job}
+use Rattle.rules.specs.Lemmas.Track.{in_window, closes_by}
+use Rattle.rules.specs.Lemmas.Rounding.{rounded_reaches}
+use Rattle.rules.specs.Lemmas.Lawful.{member_kept}
+use Rattle.rules.specs.Lemmas.Ticks.{busy, busy_count, busy_open, busy_more, not_served, idle, first_open, track}
+use Rattle.rules.specs.Lemmas.Sums.{sum_suc}
+use Rattle.rules.specs.Lemmas.Start.{Edge, Stretch, stretch}
 
 -- the first member's job has had all its ticks but hold
 pub first_late : (l : List Member) (r : CoreRun l) (a d : ℕ) → Lasts (r.released 0) (r.opened 0) a d → d ≤ count (serves r.opened r.kept 0) a d + (member l 0).hold

@@ -7,15 +7,15 @@ use Rattle.rules.specs.declared.load.Member.{Member}
 use Rattle.rules.specs.Loads.{member}
 use Rattle.rules.specs.Timing.{count, serves, CoreRun, Periodic, Timely}
 use Rattle.rules.specs.Rules.{work, work_in, harmonic}
-use Rattle.rules.specs.Counts.{count_all, count_none}
-use Rattle.rules.specs.Since.{Lasts}
-use Rattle.rules.specs.Track.{in_periods, closes_by}
-use Rattle.rules.specs.Lawful.{first_fits}
-use Rattle.rules.specs.Ticks.{busy, busy_count, busy_open, track}
-use Rattle.rules.specs.Spacing.{periodic_spaced, at_multiple, released_at}
-use Rattle.rules.specs.Sums.{sum_suc}
-use Rattle.rules.specs.Chain.{Harmony, harmony, divides, fits_period}
-use Rattle.rules.specs.ResponseTimely.{first_late}
+use Rattle.rules.specs.Lemmas.Counts.{count_all, count_none}
+use Rattle.rules.specs.Lemmas.Since.{Lasts}
+use Rattle.rules.specs.Lemmas.Track.{in_periods, closes_by}
+use Rattle.rules.specs.Lemmas.Lawful.{first_fits}
+use Rattle.rules.specs.Lemmas.Ticks.{busy, busy_count, busy_open, track}
+use Rattle.rules.specs.Lemmas.Spacing.{periodic_spaced, at_multiple, released_at}
+use Rattle.rules.specs.Lemmas.Sums.{sum_suc}
+use Rattle.rules.specs.Lemmas.Chain.{Harmony, harmony, divides, fits_period}
+use Rattle.rules.specs.Lemmas.ResponseTimely.{first_late}
 
 module _ (l : List Member) (y : Harmony l) (r : CoreRun l) (periodic : Periodic l r) where
   abbrev σ : ℕ → ℕ → Bool

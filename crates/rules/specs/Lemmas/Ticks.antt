@@ -5,9 +5,9 @@ use Rattle.std.proofs.lemmas.Bool.{and_parts, both_ways, cases_eq, false≢true}
 use Rattle.rules.specs.declared.load.Member.{Member}
 use Rattle.rules.specs.Loads.{member}
 use Rattle.rules.specs.Timing.{count, some_before, ready, serves, CoreRun}
-use Rattle.rules.specs.Spacing.{Spaced}
-use Rattle.rules.specs.Counts.{count_sum}
-use Rattle.rules.specs.Track.{Track}
+use Rattle.rules.specs.Lemmas.Spacing.{Spaced}
+use Rattle.rules.specs.Lemmas.Counts.{count_sum}
+use Rattle.rules.specs.Lemmas.Track.{Track}
 
 one_more : (a b : Bool) → ◌≡◌ {A = ℕ} (cond (cond a true b) 1 0) (cond b 1 0 + cond (a && not b) 1 0)
 one_more true true = refl
