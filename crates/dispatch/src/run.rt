@@ -12,7 +12,8 @@ use model::fault::{Cause, Fault, Layer};
 use model::limits::{MOST_CORES, MOST_STAGES};
 use placing::plan::Plan;
 
-// The plan that was opened, and the state of each stage beside its placement.
+// The plan that was opened, and the state of each stage beside its placement, not in it: closing gives back
+// the very plan.
 #[derive(Drop)]
 pub struct Run {
     plan: Plan,

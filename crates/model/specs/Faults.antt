@@ -1,5 +1,5 @@
 -- Faults, and the numbers of causes and layers.
-use Rattle.std.specs.Prelude.{ℕ}
+use Rattle.std.specs.Prelude.{ℕ, Ok, Err, Result}
 use Rattle.model.specs.declared.fault.Cause.{Cause}
 use Rattle.model.specs.declared.fault.Layer.{Layer}
 use Rattle.model.specs.declared.fault.Fault.{Fault}
@@ -28,3 +28,8 @@ layer_number Layer.Writing = 4
 
 abbrev pub fault : Cause → ℕ → Layer → Fault
 fault c n l = record { cause = c; place = n; layer = l }
+
+-- what a call answers, seen by f where it is no refusal
+abbrev pub answered : {X Y : Type 0} → (X → Y) → Result X Fault → Result Y Fault
+answered f (Ok x) = Ok (f x)
+answered f (Err why) = Err why

@@ -16,7 +16,8 @@ fn name_used(name: &[u8; NAME_BYTES], before: &[Stage]) -> bool
     before.iter().any(|stage| stage.name == *name)
 }
 
-// The period of the last of these stages, or 0.
+// The period of the last of these stages, or 0. No Option: 0 is below every period, so it needs no case of
+// its own where periods are compared.
 pub fn last_period(before: &[Stage]) -> u32
     ensures { result ≡ last_period before.now }
 {

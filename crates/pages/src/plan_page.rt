@@ -50,6 +50,7 @@ fn put_member(text: &mut Text, core: usize, placement: &Placement)
     }
 }
 
+// What the line says of all stages. A loop of its own: what it adds of a stage hangs on the core too.
 fn put_members(text: &mut Text, core: usize, placements: &[Placement])
     ensures { Adds text.old (flat_map (member_text core) placements.now) text.new }
 {
@@ -58,6 +59,7 @@ fn put_members(text: &mut Text, core: usize, placements: &[Placement])
     }
 }
 
+// The line of a core.
 #[tactic(auto, using(writing::proofs::Texts::pieces), unfolding(crate::specs::Plans::core_text))]
 fn put_core(text: &mut Text, core: usize, placements: &[Placement])
     ensures { Adds text.old (core_text core placements.now) text.new }
@@ -68,6 +70,8 @@ fn put_core(text: &mut Text, core: usize, placements: &[Placement])
     text.put(b")\n");
 }
 
+// The lines of all cores, from core 1 on. The loop counts from 0: over `1..=cores` it ends in two places, and
+// each would need its proof.
 #[tactic(auto, using(writing::proofs::Texts::pieces))]
 fn put_cores(text: &mut Text, cores: usize, placements: &[Placement])
     ensures { Adds text.old (core_lines cores placements.now) text.new }

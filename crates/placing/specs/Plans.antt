@@ -2,6 +2,7 @@
 use Rattle.std.specs.Prelude.{ℕ, List, Ok, Err, Result}
 use Rattle.arrayvec.specs.ArrayVec.{ArrayVec}
 use Rattle.model.specs.declared.fault.Fault.{Fault}
+use Rattle.model.specs.Faults.{answered}
 use Rattle.placing.specs.declared.placement.Placement.{Placement}
 use Rattle.placing.specs.declared.plan.Plan.{Plan}
 
@@ -18,13 +19,11 @@ layout_of p = record { cores = p.cores; placements = placements_of p }
 
 -- gathered placements as a list, or why they are not
 abbrev pub seated : Result (ArrayVec Placement) Fault → Result (List Placement) Fault
-seated (Ok ps) = Ok ps.items
-seated (Err f) = Err f
+seated r = answered (λ (ps : ArrayVec Placement). ps.items) r
 
 -- a plan that may have been refused, by what it keeps
 abbrev pub kept : Result Plan Fault → Result Layout Fault
-kept (Ok p) = Ok (layout_of p)
-kept (Err f) = Err f
+kept r = answered layout_of r
 
 -- the layout of so many cores, unless placing refuses
 abbrev pub laid_out : ℕ → Result (List Placement) Fault → Result Layout Fault

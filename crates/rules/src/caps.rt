@@ -19,7 +19,8 @@ pub struct UseCap<R> {
     pub below: R,
 }
 
-// Passes what the rule below passes, if there are at most `most` members.
+// Passes what the rule below passes, if there are at most `most` members. A type of its own beside the other
+// cap: they have a number and a rule below in common, and nothing of what they answer.
 #[derive(Clone, Copy, Debug)]
 pub struct CountCap<R> {
     pub most: u32,

@@ -39,7 +39,7 @@ impl<'a> Load<'a, Member> {
 
     // The first moment, up to the limit, that covers `own` ticks and what the members can ask for.
     // A moment below the demand is followed by the demand itself: no moment between the two will do,
-    // since the demand never falls.
+    // since the demand never falls. So the loop counts no index, and no `for` fits.
     fn covering_moment(&self, own: u32, limit: u32) -> Option<u32>
         requires small { own ≤ 2 * review_box.longest }
         requires short { limit ≤ review_box.longest }

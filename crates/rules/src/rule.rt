@@ -15,7 +15,8 @@ pub trait PassingRule {
     ghost passes: { Self → List Member → Bool };
 
     // The greatest cost from 1 to the one given at which a member of this period, never held, is
-    // passed at the end of the load; 0 if there is none.
+    // passed at the end of the load; 0 if there is none. No Option: a share is counted with, and none of
+    // 0 ticks is given.
     fn share(&self, load: &[Member], cost: u32, period: u32) -> u32
         ensures { result ≡ share_of (passes self.now) load.now cost period };
 

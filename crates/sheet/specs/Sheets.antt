@@ -2,6 +2,7 @@
 use Rattle.std.specs.Prelude.{ℕ, zero, suc, cond, List, [], ◌∷◌, ◌++◌, length, drop, Some, None, Ok, Err, Option, Result, nat_le}
 use Rattle.model.specs.declared.fault.Cause.{Cause}
 use Rattle.model.specs.declared.fault.Fault.{Fault}
+use Rattle.model.specs.Faults.{answered}
 use Rattle.model.specs.declared.stage.Stage.{Stage}
 use Rattle.model.specs.Limits.{review_box, cores_allowed}
 use Rattle.model.specs.Tables.{breach_of}
@@ -78,10 +79,8 @@ table_of table text = cond (nat_le review_box.stages (length table)) (stored (re
 
 -- gathered stages as a list, or why they are not
 abbrev pub listed : Result (ArrayVec Stage) Fault → Result (List Stage) Fault
-listed (Ok stages) = Ok stages.items
-listed (Err f) = Err f
+listed r = answered (λ (stages : ArrayVec Stage). stages.items) r
 
 -- the contents of a sheet as its core count and the list of its stages, or why there are none
 abbrev pub told : Result Contents Fault → Result (ℕ × List Stage) Fault
-told (Ok c) = Ok (c.cores, c.stages.items)
-told (Err f) = Err f
+told r = answered (λ (c : Contents). (c.cores, c.stages.items)) r

@@ -23,7 +23,8 @@ enum Head {
     Period,
 }
 
-// The head word that these bytes spell.
+// The head word that these bytes spell, told place by place, as the patterns decide it. It is apart from the
+// function below since each arm is shown by its bytes alone, and the definition in words follows once.
 fn spelled(word: &[u8]) -> Option<Head>
     ensures { Heads result word.now }
 {
@@ -43,7 +44,7 @@ fn head_of(word: &[u8]) -> Option<Head>
     spelled(word)
 }
 
-// The value of a number token, if it is a number of a sheet.
+// The value of a number token, if it is a number of a sheet. No `parse`: it takes a `str` and more forms.
 fn number(digits: &[u8]) -> Option<u32>
     ensures { result ≡ number_of digits.now }
 {

@@ -38,7 +38,7 @@ fn next_stage(cursor: &mut Cursor, before: &[Stage], line: usize) -> Result<Stag
     Ok(stage)
 }
 
-// Reads stage lines, from line 2 on, up to the end of the sheet.
+// Reads stage lines, from line 2 on, up to the end of the sheet, which ends the loop and no count.
 fn stage_lines(cursor: &mut Cursor) -> Result<ArrayVec<Stage, MOST_STAGES>, Fault>
     ensures { listed result ≡ stages_from review_box.stages 2 [] (rest_of cursor.old) }
 {

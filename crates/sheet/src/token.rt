@@ -31,7 +31,8 @@ fn digits(bytes: &[u8]) -> usize
     bytes.iter().take_while(|byte| is_digit(**byte)).count()
 }
 
-// The first token, and how many bytes it has.
+// The first token, and how many bytes it has. Where none is left it is a stray of no byte, and no Option:
+// no form begins with either, so the two need no cases of their own.
 pub(crate) fn first_token<'a>(bytes: &'a [u8]) -> (Token<'a>, usize)
     ensures token { heard result.0 ≡ lexeme bytes.now }
     ensures span { result.1 ≡ span bytes.now }

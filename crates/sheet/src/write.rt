@@ -45,7 +45,8 @@ fn put_stage(text: &mut Text, stage: &Stage)
     text.put(b"))\n");
 }
 
-// Adds the lines of the stages, in their order.
+// Adds the lines of the stages, in their order. A loop of its own, as those of the plan page and the tick line
+// are: what is added of an element hangs on other things in each, and a function to be handed over is longer.
 fn put_stages(text: &mut Text, table: &[Stage])
     ensures { Adds text.old (flat_map stage_text table.now) text.new }
 {

@@ -23,7 +23,7 @@ fn opened() -> Result<Run, Fault> {
     Ok(Run::open(plan))
 }
 
-// Ending the stage is refused with this number, at the stage.
+// Ending the stage is refused with this number (as a refusal line prints it), at the stage.
 fn not_ended(rt: &impl Abort, run: &mut Run, stage: usize, number: u8) -> Result<(), Fail> {
     let Err(why) = run.end(stage) else {
         return Err(Fail::new("ended"));

@@ -15,6 +15,7 @@ const MARK: Stage = Stage {
     period: 7,
 };
 
+// A fault by its numbers, here and below, as a refusal line prints them: the tests hold the numbers too.
 fn refusal(
     rt: &impl Abort,
     fault: Fault,
