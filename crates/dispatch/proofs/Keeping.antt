@@ -6,7 +6,7 @@ use Rattle.placing.specs.declared.placement.Placement.{Placement}
 use Rattle.dispatch.specs.declared.state.State.{State}
 use Rattle.dispatch.specs.Ticks.{no_state, served, grown, after_tick, fresh_state}
 use Rattle.placing.specs.Sound.{Sound}
-use Rattle.dispatch.specs.Bounds.{InBounds, Within}
+use Rattle.dispatch.specs.Bounds.{InBounds, Within, Small}
 use Rattle.dispatch.proofs.Choice.{at, state_of, took, took_wants}
 use Rattle.dispatch.proofs.Tables.{AsBefore, as_before}
 use Rattle.dispatch.proofs.Rows.{ticked_row}
@@ -17,6 +17,13 @@ pub within_zeros : (cores : ℕ) (plan : List Placement) (s : State) → Sound c
 within_zeros cores plan s sound few zeros i lt =
     let low = (sound.each i lt).period_least in
     subst (λ s. InBounds (at plan i) s) (sym (get_or-replicate 64 i s no_state (omega arith))) (omega arith, omega arith, omega arith)
+
+-- what is within its bounds can grow by one, so no number of a run overflows
+pub within_small : (cores : ℕ) (plan : List Placement) (ss : List State) → Sound cores plan → Within plan ss → (i : ℕ) → i < length plan → Small (state_of ss i)
+within_small cores plan ss sound within i lt =
+    let p = sound.each i lt in
+    let w = within i lt in
+    record { age = omega (arith, w.0, p.period_most); first = omega (arith, w.1, p.parts, p.cost_most, p.period_most); second = omega (arith, w.2, p.parts, p.cost_most, p.period_most) }
 
 bounded : (p : Placement) (s : State) (f g : Bool) → (f ≡ true → s.first < p.first) → (g ≡ true → s.second < p.second) → InBounds p s → InBounds p (grown p (served f g p s))
 bounded p s f g hf hg w = (grind (arith, nat_tests), grind (arith, nat_tests), grind (arith, nat_tests))

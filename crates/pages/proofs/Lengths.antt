@@ -147,20 +147,23 @@ numbers_short d (n ∷ ns) h =
     simp length-append (omega arith)
 
 -- a line, by its parts
-pub line_short : (a b tick : ℕ) (numbers : List ℕ) → length (decimal tick) ≤ a → length (flat_map number_text numbers) ≤ b → length (line_text tick numbers) ≤ a + b + 8
+pub line_parts : (a b tick : ℕ) (numbers : List ℕ) → length (decimal tick) ≤ a → length (flat_map number_text numbers) ≤ b → length (line_text tick numbers) ≤ a + b + 8
 unfolding line_text
-line_short a b tick numbers number all = simp length-append (omega arith)
+line_parts a b tick numbers number all = simp length-append (omega arith)
 
--- the line of an answer whose numbers have at most d digits each
+-- a line whose numbers have at most d digits each
+pub line_short : (d tick : ℕ) (numbers : List ℕ) → length (decimal tick) ≤ d → length numbers ≤ 8 → ((i : ℕ) → i < length numbers → length (decimal (get_or numbers i 0)) ≤ d) → length (line_text tick numbers) ≤ 16 + 9 * d
+line_short d tick numbers number few small =
+    let all = numbers_short d numbers small in
+    let most = mul-le-mul_left (suc d) few in
+    omega (arith, line_parts d (suc d * 8) tick numbers number (omega arith))
+
 pub tick_short : (d tick cores : ℕ) (answer : List ℕ) → length (decimal tick) ≤ d → min cores (length answer) ≤ 8 → ((i : ℕ) → i < length answer → length (decimal (get_or answer i 0)) ≤ d) → length (tick_text tick cores answer) ≤ 16 + 9 * d
 tick_short d tick cores answer number few small =
     let shown = length-take cores answer in
     let each : (i : ℕ) → i < length (take cores answer) → length (decimal (get_or (take cores answer) i 0)) ≤ d =
     λ i lt. let l : i < cores = omega arith in rw get_or-take (small i (omega arith)) in
-    let all = numbers_short d (take cores answer) each in
-    let eight : length (take cores answer) ≤ 8 = omega arith in
-    let most = mul-le-mul_left (suc d) eight in
-    omega (arith, line_short d (suc d * 8) tick (take cores answer) number (omega arith))
+    line_short d tick (take cores answer) number (omega arith) each
 
 -- no more numbers than an answer has
 pub numbers_shown : (cores count : ℕ) (answer : List ℕ) → length answer ≡ 8 → count ≡ min cores 8 → take count answer ≡ take cores answer
