@@ -41,7 +41,8 @@ impl Run {
         plan
     }
 
-    // Answers which stage each core runs in this tick, and moves the run on by the tick.
+    // Answers which stage each core runs in this tick, as eight numbers whatever the plan, and moves the run on
+    // by the tick.
     pub fn tick(&mut self) -> [u8; MOST_CORES]
         ensures answers { result ≡ answer_of self.old.plan.cores (placements_of self.old.plan) self.old.states }
         ensures plan { self.new.plan ≡ self.old.plan }

@@ -11,9 +11,9 @@ use crate::state::State;
 use model::limits::MOST_CORES;
 use placing::placement::Placement;
 
-// A stage whose turn it is in a tick. Its state is no field beside these: a loop that lends an element to a
-// struct is not known to keep the number of elements, and each method would have to promise that it keeps the
-// reference.
+// A stage whose turn it is in a tick. Its state is no field beside these. A loop that lends an element to a
+// struct is not known to keep the number of elements (tried). And each method would have to promise that it
+// keeps the reference.
 #[derive(Drop)]
 pub(crate) struct Turn<'a> {
     pub(crate) number: u8,
@@ -21,7 +21,7 @@ pub(crate) struct Turn<'a> {
     ghost sound: { SoundPlacement review_box.cores placement.now },
 }
 
-impl Turn<'_> {
+impl<'a> Turn<'a> {
     // What the stage does in a tick: it is served or passed over, and the tick is over.
     pub(crate) fn take(&self, state: &mut State, row: &mut [u8; MOST_CORES])
         requires within { InBounds self.now.placement.now state.old }
@@ -33,7 +33,8 @@ impl Turn<'_> {
     }
 
     // Gives the stage a tick on its first core or else on its second, if its job is open, some of its share
-    // there is not yet given, and no stage before it took the core. `row` has what each core took so far.
+    // there is not yet given, and no stage before it took the core. `row` has what each core took so far, as an
+    // answer has it: 0 stands for no stage.
     fn serve(&self, state: &mut State, row: &mut [u8; MOST_CORES])
         requires within { InBounds self.now.placement.now state.old }
         ensures state { state.new ≡ served_after self.now.placement.now state.old row.old }

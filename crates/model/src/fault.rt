@@ -31,7 +31,8 @@ pub enum Layer {
 }
 
 // A fault goes up unchanged through every call between the one that found it and the caller.
-// The place is a line, a stage or the number that was given, and 0 where there is none.
+// The place is a line, a stage or the number that was given. It is 0, and no Option, where there is none: so
+// the refusal line prints it.
 #[derive(Clone, Copy, PartialEq, Eq, Debug)]
 pub struct Fault {
     pub cause: Cause,

@@ -5,7 +5,7 @@ ghost use Rattle.model.specs.Names.{letter, letters_of, all_zero, lawful_name};
 
 use crate::limits::NAME_BYTES;
 
-// Whether a byte may stand in a name.
+// Whether a byte may stand in a name. The letters are cases, here and where digits are, so that they are read off.
 pub fn is_letter(byte: u8) -> bool
     ensures { result ≡ letter byte }
 {

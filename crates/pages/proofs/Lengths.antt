@@ -1,10 +1,10 @@
 -- How long the texts can be.
-use Rattle.std.proofs.Common.{◌≡◌, ℕ, zero, suc, ◌+◌, ◌*◌, ◌^◌, ◌<◌, ◌≤◌, min, true, cond, eqb, leb, List, [], ◌∷◌, length, get_or, take, codes, decimal, sym, refl, ap, ◌∙◌, ⊎_elim, mul-le-mul_left, mul-suc, arith, length-append, length-take}
+use Rattle.std.proofs.Common.{◌≡◌, ℕ, zero, suc, ◌+◌, ◌*◌, ◌^◌, ◌<◌, ◌≤◌, min, true, cond, eqb, leb, List, [], ◌∷◌, length, get_or, take, codes, decimal, refl, mul-le-mul_left, mul-suc, arith, length-append, length-take}
 use Rattle.std.specs.List.{flat_map}
 use Rattle.std.proofs.lemmas.Fmt.{length-decimal-le}
-use Rattle.std.proofs.lemmas.List.{take_all, get_or-take}
+use Rattle.std.proofs.lemmas.List.{get_or-take}
 use Rattle.std.proofs.lemmas.List.Sums.{prefix_len-le-length}
-use Rattle.std.proofs.lemmas.Bool.{and_parts, eqb-true, cases_lt}
+use Rattle.std.proofs.lemmas.Bool.{and_parts, eqb-true}
 use Rattle.std.proofs.lemmas.Bool.Decides.{nat_tests}
 use Rattle.model.specs.declared.fault.Cause.{Cause}
 use Rattle.model.specs.declared.fault.Fault.{Fault}
@@ -164,11 +164,3 @@ tick_short d tick cores answer number few small =
     let each : (i : ℕ) → i < length (take cores answer) → length (decimal (get_or (take cores answer) i 0)) ≤ d =
     λ i lt. let l : i < cores = omega arith in rw get_or-take (small i (omega arith)) in
     line_short d tick (take cores answer) number (omega arith) each
-
--- no more numbers than an answer has
-pub numbers_shown : (cores count : ℕ) (answer : List ℕ) → length answer ≡ 8 → count ≡ min cores 8 → take count answer ≡ take cores answer
-numbers_shown cores count answer eight e =
-    ⊎_elim
-    (λ lt. take_all count answer (omega arith) ∙ sym (take_all cores answer (omega arith)))
-    (λ le. let same : count ≡ cores = omega arith in ap (λ k. take k answer) same)
-    (cases_lt 8 cores)

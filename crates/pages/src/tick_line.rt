@@ -11,7 +11,8 @@ use model::limits::MOST_CORES;
 use writing::text::Text;
 use writing::written::{Written, write};
 
-// Adds the numbers, a space before each. A loop of its own: each adds two pieces, and no name.
+// Adds the numbers, a space before each. A loop of its own beside those of the other pages: it also says how
+// long the text is.
 fn put_numbers(text: &mut Text, numbers: &[u8])
     ensures added { Adds text.old (flat_map number_text numbers.now) text.new }
     ensures short { length (flat_map number_text numbers.now) ≤ 4 * length numbers.now }

@@ -1,4 +1,4 @@
-// Where one stage is placed.
+// Where one stage is placed. Its name, cost and period stand here one by one, as the plan lists them.
 ghost use Rattle.std.specs.Prelude.{◌≡◌};
 ghost use Rattle.placing.specs.Placements.{seat};
 
@@ -14,7 +14,7 @@ pub struct Placement {
     pub core: usize,
     // its share on that core: the whole cost, if it is not split
     pub first: u32,
-    // its share on the core after: 0, if it is not split
+    // its share on the core after: 0, and no Option, if it is not split, since shares are added up
     pub second: u32,
 }
 

@@ -14,7 +14,7 @@ use crate::rule::PassingRule;
 pub struct Harmonic;
 
 impl<'a, T: AsMember> Load<'a, T> {
-    // Whether each period divides the next.
+    // Whether each period divides the next. Before the first stands 1, which divides every period.
     pub fn is_chained(&self) -> bool
         ensures { result ≡ chained (map T.member_of self.now.members.now) }
     {

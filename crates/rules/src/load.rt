@@ -51,7 +51,8 @@ impl Member {
     }
 }
 
-// What can stand in a load.
+// What can stand in a load. A trait of its own and no `From`: the walks over a load name in their clauses as
+// which member each of its elements stands there.
 pub trait AsMember {
     // As which member it stands there.
     ghost member_of: { Self → Member };
@@ -140,7 +141,7 @@ impl<'a> Load<'a, Member> {
         ensures { result.members.now ≡ take n self.now.members.now }
     {
         Load {
-            members: &self.members[0..n],
+            members: &self.members[..n],
         }
     }
 }

@@ -39,7 +39,7 @@ impl<'a> Load<'a, Member> {
 
     // The first moment, up to the limit, that covers `own` ticks and what the members can ask for.
     // A moment below the demand is followed by the demand itself: no moment between the two will do,
-    // since the demand never falls. So the loop counts no index, and no `for` fits.
+    // since the demand never falls.
     fn covering_moment(&self, own: u32, limit: u32) -> Option<u32>
         requires small { own ≤ 2 * review_box.longest }
         requires short { limit ≤ review_box.longest }
@@ -71,7 +71,8 @@ impl<'a> Load<'a, Member> {
 }
 
 impl<'a> Room<'a> {
-    // The greatest cost, up to the one given, that is covered within the period, or 0, by bisection.
+    // The greatest cost, up to the one given, that is covered within the period, or 0, as a share is told; by
+    // bisection.
     fn greatest_in_time(&self, cost: u32) -> u32
         ensures { result ≡ greatest (λ c. covered_to self.now.load.members.now c self.now.period) (min cost self.now.period) }
     {

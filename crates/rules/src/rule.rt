@@ -20,7 +20,7 @@ pub trait PassingRule {
     fn share(&self, load: &[Member], cost: u32, period: u32) -> u32
         ensures { result ≡ share_of (passes self.now) load.now cost period };
 
-    // Whether the load of this one member is passed.
+    // Whether the load of this one member is passed. It is told by its numbers, as a share is asked for.
     fn alone(&self, cost: u32, period: u32, hold: u32) -> bool
         ensures { result ≡ passes self.now (single cost period hold) };
 

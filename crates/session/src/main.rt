@@ -14,6 +14,7 @@ mod planning;
 
 fn main(rt: HostRuntime) -> io::Result<()> {
     let sheet = read_input(&mut rt.stdin())?;
+    // a page is a row of bytes that its owner lends, so what was written is its front
     let mut page = [0; ROOM];
     match write_session(&sheet, &mut page) {
         Ok(n) => rt.stdout().write_all(&page[..n]),

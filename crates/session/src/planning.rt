@@ -21,6 +21,7 @@ const MOST_USE: u32 = 900_000;
 pub fn plan_of(text: &[u8]) -> Result<Plan, Fault>
     ensures { kept result ≡ plan_for (read_of text.now) }
 {
+    // the table is a row of records that is lent: `read` fills its front
     let mut table = [Stage::default(); MOST_STAGES];
     let counts = read(text, &mut table)?;
     let rule = CountCap {

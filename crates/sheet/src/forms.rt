@@ -23,8 +23,8 @@ enum Head {
     Period,
 }
 
-// The head word that these bytes spell, told place by place, as the patterns decide it. It is apart from the
-// function below since each arm is shown by its bytes alone, and the definition in words follows once.
+// The head word that these bytes spell. Its clause speaks of single bytes, as the patterns do; the function below
+// says the same in whole words, once for all arms.
 fn spelled(word: &[u8]) -> Option<Head>
     ensures { Heads result word.now }
 {

@@ -21,7 +21,7 @@ pub struct Counts {
     pub stages: usize,
 }
 
-// What a sheet says.
+// What a sheet says: the stages themselves, where a caller is told how many there are.
 #[derive(Drop)]
 struct Contents {
     cores: usize,
@@ -38,7 +38,7 @@ fn next_stage(cursor: &mut Cursor, before: &[Stage], line: usize) -> Result<Stag
     Ok(stage)
 }
 
-// Reads stage lines, from line 2 on, up to the end of the sheet, which ends the loop and no count.
+// Reads stage lines, from line 2 on, up to the end of the sheet.
 fn stage_lines(cursor: &mut Cursor) -> Result<ArrayVec<Stage, MOST_STAGES>, Fault>
     ensures { listed result ≡ stages_from review_box.stages 2 [] (rest_of cursor.old) }
 {

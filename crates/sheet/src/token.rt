@@ -16,7 +16,7 @@ pub(crate) enum Token<'a> {
     Stray,
 }
 
-// Whether a byte may stand in a number.
+// Whether a byte may stand in a number, by cases as for letters.
 fn is_digit(byte: u8) -> bool
     ensures { result ≡ digit byte }
 {
@@ -32,7 +32,7 @@ fn digits(bytes: &[u8]) -> usize
 }
 
 // The first token, and how many bytes it has. Where none is left it is a stray of no byte, and no Option:
-// no form begins with either, so the two need no cases of their own.
+// no form has either, so the two need no cases of their own.
 pub(crate) fn first_token<'a>(bytes: &'a [u8]) -> (Token<'a>, usize)
     ensures token { heard result.0 ≡ lexeme bytes.now }
     ensures span { result.1 ≡ span bytes.now }

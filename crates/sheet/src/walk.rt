@@ -5,7 +5,7 @@ ghost use Rattle.sheet.specs.Tokens.{heard, lexeme, after, rest_of};
 use crate::cursor::Cursor;
 use crate::token::{Token, first_token};
 
-// A token, and the place in the sheet where it begins.
+// A token, and the place in the sheet where it begins. Every token has its place, though no fault needs it yet.
 #[derive(Clone, Copy)]
 pub(crate) struct Placed<'a> {
     pub(crate) token: Token<'a>,

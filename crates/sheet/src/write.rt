@@ -46,7 +46,7 @@ fn put_stage(text: &mut Text, stage: &Stage)
 }
 
 // Adds the lines of the stages, in their order. A loop of its own, as those of the plan page and the tick line
-// are: what is added of an element hangs on other things in each, and a function to be handed over is longer.
+// are: what is added of an element hangs on other things in each.
 fn put_stages(text: &mut Text, table: &[Stage])
     ensures { Adds text.old (flat_map stage_text table.now) text.new }
 {

@@ -6,15 +6,6 @@ use rules::load::Member;
 use rules::response::Response;
 use rules::rule::PassingRule;
 
-// A member that is never held.
-fn member(cost: u32, period: u32) -> Member {
-    Member {
-        cost,
-        period,
-        hold: 0,
-    }
-}
-
 // A count cap on a use cap on the response rule.
 fn pile(count: u32, millionths: u32) -> CountCap<UseCap<Response>> {
     CountCap {
@@ -28,7 +19,7 @@ fn pile(count: u32, millionths: u32) -> CountCap<UseCap<Response>> {
 
 // All but one of the most members, with periods that rise by one to the longest.
 fn nearly_full(cost: u32) -> [Member; 63] {
-    let mut load = [member(cost, 60_000); 63];
+    let mut load = [Member::newcomer(cost, 60_000); 63];
     for (period, last) in (59_938..).zip(load.iter_mut()) {
         last.period = period;
     }
@@ -37,14 +28,17 @@ fn nearly_full(cost: u32) -> [Member; 63] {
 
 #[test]
 fn response_shares(rt: HostRuntime) {
-    assert_eq!(rt; Response.share(&[member(1, 4), member(2, 6)], 4, 8), 2);
+    assert_eq!(rt;
+        Response.share(&[Member::newcomer(1, 4), Member::newcomer(2, 6)], 4, 8),
+        2
+    );
     let first = Member {
         cost: 2,
         period: 4,
         hold: 2,
     };
     assert_eq!(rt; Response.share(&[first], 4, 8), 2);
-    assert_eq!(rt; Response.share(&[member(1, 2)], 2, 3), 1);
+    assert_eq!(rt; Response.share(&[Member::newcomer(1, 2)], 2, 3), 1);
     assert!(rt; Response.alone(3, 10, 7));
     assert!(rt; !Response.alone(3, 10, 8));
 }
@@ -57,7 +51,7 @@ fn harmonic_shares(rt: HostRuntime) {
         hold: 2,
     };
     assert_eq!(rt; Harmonic.share(&[first], 4, 8), 4);
-    assert_eq!(rt; Harmonic.share(&[member(1, 2)], 2, 3), 0);
+    assert_eq!(rt; Harmonic.share(&[Member::newcomer(1, 2)], 2, 3), 0);
     assert!(rt; Harmonic.alone(3, 10, 7));
     assert!(rt; !Harmonic.alone(3, 10, 8));
 }
@@ -82,9 +76,12 @@ fn uses_are_rounded_up(rt: HostRuntime) {
 #[test]
 fn twelve_members_at_most(rt: HostRuntime) {
     let rule = pile(12, 900_000);
-    assert_eq!(rt; rule.share(&[member(1, 4), member(2, 6)], 4, 8), 2);
-    assert_eq!(rt; rule.share(&[member(1, 100); 11], 1, 100), 1);
-    assert_eq!(rt; rule.share(&[member(1, 100); 12], 1, 100), 0);
+    assert_eq!(rt;
+        rule.share(&[Member::newcomer(1, 4), Member::newcomer(2, 6)], 4, 8),
+        2
+    );
+    assert_eq!(rt; rule.share(&[Member::newcomer(1, 100); 11], 1, 100), 1);
+    assert_eq!(rt; rule.share(&[Member::newcomer(1, 100); 12], 1, 100), 0);
 }
 
 // Nine tenths of the core, and no tick more.
@@ -92,8 +89,8 @@ fn twelve_members_at_most(rt: HostRuntime) {
 fn nine_tenths_at_most(rt: HostRuntime) {
     let rule = pile(12, 900_000);
     assert_eq!(rt; rule.share(&[], 100, 100), 90);
-    assert_eq!(rt; rule.share(&[member(8, 100); 11], 100, 100), 2);
-    assert_eq!(rt; rule.share(&[member(90, 100)], 1, 100), 0);
+    assert_eq!(rt; rule.share(&[Member::newcomer(8, 100); 11], 100, 100), 2);
+    assert_eq!(rt; rule.share(&[Member::newcomer(90, 100)], 1, 100), 0);
     assert!(rt; rule.alone(90, 100, 0));
     assert!(rt; rule.alone(90, 100, 10));
     assert!(rt; !rule.alone(90, 100, 11));
@@ -121,10 +118,10 @@ fn extreme_numbers(rt: HostRuntime) {
     assert_eq!(rt; Harmonic.share(&[], 0, 60_000), 0);
     assert_eq!(rt; rule.share(&[], u32::MAX, u32::MAX), 0);
     assert_eq!(rt;
-        rule.share(&[member(u32::MAX, u32::MAX)], u32::MAX, 60_000),
+        rule.share(&[Member::newcomer(u32::MAX, u32::MAX)], u32::MAX, 60_000),
         0
     );
-    assert_eq!(rt; rule.share(&[member(0, 0)], 1, 60_000), 0);
+    assert_eq!(rt; rule.share(&[Member::newcomer(0, 0)], 1, 60_000), 0);
     assert!(rt; !Response.alone(u32::MAX, 2, u32::MAX));
     assert!(rt; !Response.alone(1, 2, u32::MAX));
     assert!(rt; !Harmonic.alone(u32::MAX, u32::MAX, u32::MAX));
@@ -140,32 +137,35 @@ fn unlawful_loads(rt: HostRuntime) {
         hold: 1,
     };
     assert_eq!(rt; Response.share(&[held], 1, 8), 1);
-    assert_eq!(rt; Response.share(&[member(1, 8), held], 1, 8), 0);
-    assert_eq!(rt; Response.share(&[member(1, 8)], 1, 7), 0);
-    assert_eq!(rt; Harmonic.share(&[member(1, 8), member(1, 4)], 1, 8), 0);
+    assert_eq!(rt; Response.share(&[Member::newcomer(1, 8), held], 1, 8), 0);
+    assert_eq!(rt; Response.share(&[Member::newcomer(1, 8)], 1, 7), 0);
+    assert_eq!(rt;
+        Harmonic.share(&[Member::newcomer(1, 8), Member::newcomer(1, 4)], 1, 8),
+        0
+    );
 }
 
 #[test]
 fn full_loads(rt: HostRuntime) {
     let rule = pile(64, 1_000_000);
     assert_eq!(rt;
-        Response.share(&[member(1, 60_000); 63], 60_000, 60_000),
+        Response.share(&[Member::newcomer(1, 60_000); 63], 60_000, 60_000),
         59_937
     );
     assert_eq!(rt;
-        rule.share(&[member(1, 60_000); 63], 60_000, 60_000),
+        rule.share(&[Member::newcomer(1, 60_000); 63], 60_000, 60_000),
         59_935
     );
     assert_eq!(rt;
-        rule.share(&[member(1, 60_000); MOST_STAGES], 60_000, 60_000),
+        rule.share(&[Member::newcomer(1, 60_000); MOST_STAGES], 60_000, 60_000),
         0
     );
     assert_eq!(rt;
-        Harmonic.share(&[member(1, 60_000); 63], 60_000, 60_000),
+        Harmonic.share(&[Member::newcomer(1, 60_000); 63], 60_000, 60_000),
         59_937
     );
     assert_eq!(rt;
-        Harmonic.share(&[member(1, 60_000); MOST_STAGES], 60_000, 60_000),
+        Harmonic.share(&[Member::newcomer(1, 60_000); MOST_STAGES], 60_000, 60_000),
         0
     );
 }

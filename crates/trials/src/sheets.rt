@@ -314,7 +314,7 @@ fn written_bytes(rt: HostRuntime) {
     assert_eq!(rt; page[40], 9);
 }
 
-// Writing is refused so, and the page is left.
+// Writing is refused so, and the page is left: as `refused` above, of another call.
 fn not_written(
     rt: &impl Abort,
     cores: usize,

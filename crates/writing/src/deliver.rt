@@ -8,7 +8,8 @@ use model::fault::{Cause, Fault, Layer};
 
 impl Text {
     // Copies the text to the front of the page and answers how many bytes it has.
-    // A page that is too short is left as it was.
+    // A page that is too short is left as it was. Here, and in each call that writes a page, one clause says
+    // what is answered and one what the page then is.
     pub fn deliver(&self, page: &mut [u8]) -> Result<usize, Fault>
         ensures answer { result ≡ page_answer (Ok (text_of self.now)) page.old }
         ensures page { page.new ≡ page_after (Ok (text_of self.now)) page.old }

@@ -111,7 +111,7 @@ fn place_stages<R: PassingRule>(
     Ok(placements)
 }
 
-// The plan of a core count and a table. They go on one by one, as the public call was given them: a type for
+// The plan of a core count and a table. They go on one by one, as the public calls are given them: a type for
 // the two would be made here and taken apart in the one call below.
 fn laid_out<R: PassingRule>(rule: &R, cores: usize, table: &[Stage]) -> Result<Plan, Fault>
     ensures { kept result ≡ laid_out cores (place_of (R.PassingRule.passes rule.now) cores table.now) }

@@ -11,7 +11,7 @@ use Rattle.dispatch.proofs.Walk.{turned}
 use Rattle.dispatch.proofs.run.Run.tick.Goals as goal
 
 pub invariant_of-turn : goal.invariant_of-turn
-invariant_of-turn c = record { sound = plan_on_the_box c.args.self.now.plan _ c.placements-placements.ensures c.loop-i.i c.loop-i-test.true }
+invariant_of-turn c = record { sound = plan_on_the_box c.args.self.now.plan _ c.placements-placements.ensures _ (omega arith) }
 
 pub take-requires : goal.take-requires
 take-requires c =
