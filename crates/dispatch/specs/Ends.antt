@@ -20,7 +20,7 @@ state_at k ss = slice_index_or ss (k - 1) no_state
 abbrev pub refusal : Cause → ℕ → Fault
 refusal cause k = fault cause k Layer.Running
 
--- where the stage's state stands among the states
+-- where a stage's state stands among the states, or that there is no such stage
 abbrev pub index_answer : ℕ → List Placement → Result ℕ Fault
 index_answer k ps = cond (is_stage k ps) (Ok (k - 1)) (Err (refusal Cause.NoSuchStage k))
 

@@ -5,7 +5,7 @@ use Rattle.std.proofs.lemmas.List.Sums.{sum_by_push}
 use Rattle.std.proofs.lemmas.Bool.{and_from, and_left, and_right, leb-true, le-leb, lt-leb, cases_lt}
 use Rattle.rules.specs.declared.load.Member.{Member}
 use Rattle.rules.specs.Loads.{lawful, joined, newcomer}
-use Rattle.rules.specs.Bounds.{Kept, Modest, AllModest}
+use Rattle.rules.specs.Bounds.{Kept, AllModest}
 use Rattle.rules.specs.Rules.{greatest, share_of, use_of, uses, use_cap, count_cap}
 use Rattle.rules.specs.Laws.{LoweringKeeps}
 use Rattle.rules.specs.Lemmas.Tests.{refuted}
@@ -33,9 +33,6 @@ module _ (below : List Member → Bool) (l : List Member) (cost period : ℕ) wh
         passed = λ h. absurd (omega arith);
         above = λ c h k. and_right (test (joined l c period)) (below (joined l c period)) (less.above c (omega arith) k);
       })
-
-pub use_small : (m : Member) → Modest m → use_of m ≤ 1000000
-use_small m k = ceil_from (1000000 * m.cost) m.period 1000000 (omega (arith, k.kept.least)) (omega (arith, k.kept.fits))
 
 module _ (below : List Member → Bool) (keeps : LoweringKeeps below) (only : (l : List Member) → below l ≡ true → lawful l ≡ true) (l : List Member) (cost period g : ℕ) (is : g ≡ share_of below l cost period) (some : 0 < g) where
   abbrev share_below : Greatest (λ c. below (joined l c period)) cost (share_of below l cost period)

@@ -3,7 +3,7 @@ use Rattle.std.proofs.Common.{◌≡◌, ℕ, ◌+◌, ◌-◌, ◌<◌, ◌≤�
 use Rattle.std.proofs.lemmas.List.{length_push}
 use Rattle.std.proofs.lemmas.Bool.{and_parts, and_from, leb-true, le-leb, false≢true, both_ways}
 use Rattle.rules.specs.declared.load.Member.{Member}
-use Rattle.rules.specs.Loads.{all, within_limits, unheld, rising, lawful, joined, single, member, newcomer}
+use Rattle.rules.specs.Loads.{all, within_limits, unheld, rising, lawful, joined, member, newcomer}
 use Rattle.rules.specs.Walk.{may_follow, may_open, orderly, last_or}
 use Rattle.rules.specs.Lemmas.Tests.{same_test, refuted}
 use Rattle.rules.specs.Lemmas.Lawful.{lawful_parts, lawful_from, limits_kept, limits_from}
@@ -147,9 +147,6 @@ room_none p =
     (λ e. walked_lawful m [] (record { few = omega arith; opens = and_from (within_limits m) (leb (1 + 0) p) e (le-leb (1 + 0) p (omega (arith, (limits_kept m e).least))); rest = refl }))
     (λ e. (and_parts (within_limits m) (leb (1 + 0) p) (walked m [] e).opens).0)
 
-pub no_room : (l : List Member) (p : ℕ) → 64 ≤ length l → false ≡ lawful (joined l 1 p)
-no_room l p h = too_many (joined l 1 p) (omega (arith, length_push l (newcomer 1 p)))
-
 pub room_at : (l : List Member) (p : ℕ) → 1 ≤ length l → length l < 64 → (may_follow (member l (length l - 1)).period (newcomer 1 p) && lawful l) ≡ lawful (joined l 1 p)
 room_at [] p h few = absurd (omega arith)
 room_at (x ∷ l) p h few =
@@ -183,11 +180,3 @@ room_cost (x ∷ l) c p some le h =
 pub no_room_cost : (l : List Member) (c p : ℕ) → 1 ≤ c → lawful (joined l 1 p) ≡ false → lawful (joined l c p) ≡ false
 no_room_cost l c p some h =
     refuted (lawful (joined l c p)) (λ e. both_ways (lawful (joined l 1 p)) h (lawful_lowered (newcomer c p) 1 (omega arith) some l e))
-
--- a load of one member
-pub alone_lawful : (cost period hold : ℕ) → may_open (record { cost = cost; period = period; hold = hold }) ≡ lawful (single cost period hold)
-alone_lawful cost period hold =
-    let m : Member = record { cost = cost; period = period; hold = hold } in
-    same_test (may_open m) (lawful (m ∷ []))
-    (λ e. walked_lawful m [] (record { few = omega arith; opens = e; rest = refl }))
-    (λ e. (walked m [] e).opens)

@@ -1,17 +1,15 @@
 -- The share under the response rule.
-use Rattle.std.proofs.Common.{◌≡◌, ℕ, ◌+◌, ◌<◌, min, true, false, ◌&&◌, List, [], ◌∷◌, ◌++◌, length, take, drop, sym, refl, ap, ◌∙◌, ⊎_elim, add-zero, arith}
+use Rattle.std.proofs.Common.{◌≡◌, ℕ, min, true, false, ◌&&◌, List, [], ◌∷◌, ◌++◌, sym, ap, ◌∙◌, ⊎_elim, add-zero, arith}
 use mathlib.Core.Bool.{and_assoc, and-true}
-use Rattle.std.proofs.lemmas.List.{take_more, at_drop_more, append_assoc, append-nil}
-use Rattle.std.proofs.lemmas.Bool.{and_parts, and_from, and_left, and_right, le-leb, cases_lt}
+use Rattle.std.proofs.lemmas.List.{append_assoc, append-nil}
+use Rattle.std.proofs.lemmas.Bool.{and_from, and_left, and_right, cases_lt}
 use Rattle.rules.specs.declared.load.Member.{Member}
-use Rattle.rules.specs.Loads.{lawful, member, nobody, joined, single, newcomer}
-use Rattle.rules.specs.Rules.{greatest, share_of, covers, covered_to, covered, all_covered, response}
-use Rattle.rules.specs.Lemmas.Lawful.{first_fits}
-use Rattle.rules.specs.Lemmas.Tests.{same_test, refuted}
+use Rattle.rules.specs.Loads.{lawful, joined, newcomer}
+use Rattle.rules.specs.Rules.{greatest, share_of, covered_to, covered, all_covered, response}
+use Rattle.rules.specs.Lemmas.Tests.{refuted}
 use Rattle.rules.proofs.Orderly.{room_cost, no_room_cost}
 use Rattle.rules.proofs.Greatest.{greatest_of, greatest_is, greatest_none}
-use Rattle.rules.specs.Lemmas.Moments.{some_at}
-use Rattle.rules.proofs.Small.{single_modest, joined_kept}
+use Rattle.rules.proofs.Small.{joined_kept}
 
 covered_push : (before l : List Member) (m : Member) → all_covered before (l ++ (m ∷ [])) ≡ (all_covered before l && covered (before ++ l) m)
 covered_push before [] m = and-true (covered before m) ∙ ap (λ k. covered k m) (sym (append-nil before))
@@ -19,22 +17,6 @@ covered_push before (x ∷ l) m =
     let next = before ++ (x ∷ []) in
     ap (λ b. covered before x && b) (covered_push next l m ∙ ap (λ k. all_covered next l && covered k m) (append_assoc before (x ∷ []) l))
     ∙ sym (and_assoc (covered before x) (all_covered next l) (covered (before ++ (x ∷ l)) m))
-
-pub covered_next : (l : List Member) (i : ℕ) → i < length l → (covered (take i l) (member l i) && all_covered (take (i + 1) l) (drop (i + 1) l)) ≡ all_covered (take i l) (drop i l)
-covered_next l i h =
-    ap (λ k. covered (take i l) (member l i) && all_covered k (drop (i + 1) l)) (take_more l i nobody h)
-    ∙ sym (at_drop_more (all_covered (take i l)) l i nobody h)
-
-pub response_single : (cost period hold : ℕ) → lawful (single cost period hold) ≡ response (single cost period hold)
-response_single cost period hold =
-    let l = single cost period hold in
-    let m : Member = record { cost = cost; period = period; hold = hold } in
-    same_test (lawful l) (response l)
-    (λ e.
-    let k = single_modest cost period hold e in
-    let fits = first_fits l e in
-    and_from (lawful l) (covered [] m && true) e (and_from (covered [] m) true (some_at (covers [] (cost + hold)) period period (omega (arith, k.kept.least)) (omega arith) (le-leb (cost + hold + 0) period (omega arith))) refl))
-    (λ e. (and_parts (lawful l) (covered [] m && true) e).0)
 
 module _ (l : List Member) (cost p : ℕ) where
   at_end : (c : ℕ) → response (joined l c p) ≡ (lawful (joined l c p) && (all_covered [] l && covered_to l c p))
