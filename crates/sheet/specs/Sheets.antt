@@ -8,7 +8,6 @@ use Rattle.model.specs.Limits.{review_box, cores_allowed}
 use Rattle.model.specs.Tables.{breach_of}
 use Rattle.arrayvec.specs.ArrayVec.{ArrayVec}
 use Rattle.sheet.specs.declared.read.Counts.{Counts}
-use Rattle.sheet.specs.declared.read.Contents.{Contents}
 use Rattle.sheet.specs.Faults.{reading}
 use Rattle.sheet.specs.Forms.{cores_of, stage_of, formed}
 
@@ -78,9 +77,9 @@ abbrev pub table_of : List Stage → List ℕ → List Stage
 table_of table text = cond (nat_le review_box.stages (length table)) (stored (read_of text) table) table
 
 -- gathered stages as a list, or why they are not
-abbrev pub listed : Result (ArrayVec Stage) Fault → Result (List Stage) Fault
-listed r = answered (λ (stages : ArrayVec Stage). stages.items) r
+abbrev pub listed : Result (Unit {0}) Fault → ArrayVec Stage → Result (List Stage) Fault
+listed r stages = answered (λ (z : Unit {0}). stages.items) r
 
 -- the contents of a sheet as its core count and the list of its stages, or why there are none
-abbrev pub told : Result Contents Fault → Result (ℕ × List Stage) Fault
-told r = answered (λ (c : Contents). (c.cores, c.stages.items)) r
+abbrev pub told : Result ℕ Fault → ArrayVec Stage → Result (ℕ × List Stage) Fault
+told r stages = answered (λ (cores : ℕ). (cores, stages.items)) r

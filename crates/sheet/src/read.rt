@@ -21,13 +21,6 @@ pub struct Counts {
     pub stages: usize,
 }
 
-// What a sheet says: the stages themselves, where a caller is told how many there are.
-#[derive(Drop)]
-struct Contents {
-    cores: usize,
-    stages: ArrayVec<Stage, MOST_STAGES>,
-}
-
 // The next stage line, which is to follow these stages.
 #[tactic(auto, unfolding(crate::specs::Sheets::line_of))]
 fn next_stage(cursor: &mut Cursor, before: &[Stage], line: usize) -> Result<Stage, Fault>
@@ -38,37 +31,38 @@ fn next_stage(cursor: &mut Cursor, before: &[Stage], line: usize) -> Result<Stag
     Ok(stage)
 }
 
-// Reads stage lines, from line 2 on, up to the end of the sheet.
-fn stage_lines(cursor: &mut Cursor) -> Result<ArrayVec<Stage, MOST_STAGES>, Fault>
-    ensures { listed result ≡ stages_from review_box.stages 2 [] (rest_of cursor.old) }
+// Reads stage lines, from line 2 on, up to the end of the sheet, into a vector that is lent: answered by value, the
+// whole vector would be zeroed and copied at each call on its way, and a short sheet would take a quarter longer.
+fn stage_lines(cursor: &mut Cursor, stages: &mut ArrayVec<Stage, MOST_STAGES>) -> Result<(), Fault>
+    ensures { listed result stages.new ≡ stages_from review_box.stages 2 [] (rest_of cursor.old) }
 {
-    let mut stages = ArrayVec::new();
+    stages.clear();
     while !cursor.at_end() {
         let line = stages.len() + 2;
         if stages.is_full() {
             return Err(Cause::TooManyLines.at(line, Layer::Reading));
         }
-        let stage = next_stage(cursor, &stages, line)?;
+        let stage = next_stage(cursor, stages, line)?;
         stages.push(stage);
     }
-    Ok(stages)
+    Ok(())
 }
 
-// Reads a whole sheet.
+// Reads a whole sheet: answers its core count, and leaves its stages in the vector.
 #[tactic(auto, unfolding(crate::specs::Sheets::read_of))]
-fn gather(text: &[u8]) -> Result<Contents, Fault>
-    ensures { told result ≡ read_of text.now }
+fn gather(text: &[u8], stages: &mut ArrayVec<Stage, MOST_STAGES>) -> Result<usize, Fault>
+    ensures { told result stages.new ≡ read_of text.now }
 {
     let mut cursor = Cursor::new(text);
     let cores = cores_line(&mut cursor, 1)? as usize;
     if !REVIEW_BOX.allows_cores(cores) {
         return Err(Cause::OutsideLimits.at(1, Layer::Reading));
     }
-    let stages = stage_lines(&mut cursor)?;
+    stage_lines(&mut cursor, stages)?;
     if stages.is_empty() {
         return Err(Cause::NoStageLine.at(1, Layer::Reading));
     }
-    Ok(Contents { cores, stages })
+    Ok(cores)
 }
 
 // Whether a table has room for the stages of any sheet.
@@ -87,7 +81,8 @@ pub fn read(text: &[u8], table: &mut [Stage]) -> Result<Counts, Fault>
     if !takes_any(table) {
         return Err(Cause::ShortTable.at(0, Layer::Reading));
     }
-    let Contents { cores, stages } = gather(text)?;
+    let mut stages = ArrayVec::new();
+    let cores = gather(text, &mut stages)?;
     let n = stages.len();
     table[..n].copy_from_slice(&stages);
     Ok(Counts { cores, stages: n })
