@@ -20,9 +20,7 @@ pub fn letters(bytes: &[u8]) -> usize
     bytes.iter().take_while(|byte| is_letter(**byte)).count()
 }
 
-// A name without the zeros behind it. It is not inlined: in the walk over a plan's stages it would leave too few
-// registers to the walk, and the page of a plan of 64 stages would take half as long again.
-#[inline(never)]
+// A name without the zeros behind it.
 pub fn word(name: &[u8; NAME_BYTES]) -> &[u8]
     ensures { result.now ≡ letters_of name.now }
 {

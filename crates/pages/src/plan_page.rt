@@ -1,6 +1,7 @@
 // The plan page: a line for the plan, and one for each core.
 ghost use Rattle.std.specs.Prelude.{◌≡◌, Ok};
 ghost use Rattle.std.specs.List.{flat_map};
+ghost use Rattle.model.specs.Names.{letters_of};
 ghost use Rattle.writing.specs.Pages.{page_answer, page_after};
 ghost use Rattle.writing.specs.Texts.{Adds};
 ghost use Rattle.placing.specs.Plans.{layout_of};
@@ -13,13 +14,22 @@ use placing::plan::Plan;
 use writing::text::Text;
 use writing::written::{Written, write};
 
+// The letters of a stage's name. Not inlined: in the walk over a plan's stages they would leave too few registers
+// to the walk, and the page of a plan of 64 stages would take half as long again.
+#[inline(never)]
+fn shown_name(placement: &Placement) -> &[u8]
+    ensures { result.now ≡ letters_of placement.now.name }
+{
+    word(&placement.name)
+}
+
 // `(whole audio)`, a space before it.
 #[tactic(auto, using(writing::proofs::Texts::pieces), unfolding(crate::specs::Plans::whole_text))]
 fn put_whole(text: &mut Text, placement: &Placement)
     ensures { Adds text.old (whole_text placement.now) text.new }
 {
     text.put(b" (whole ");
-    text.put(word(&placement.name));
+    text.put(shown_name(placement));
     text.put(b")");
 }
 
@@ -29,7 +39,7 @@ fn put_share(text: &mut Text, head: &[u8], placement: &Placement, share: u32)
     ensures { Adds text.old (share_text head.now placement.now share) text.new }
 {
     text.put(head);
-    text.put(word(&placement.name));
+    text.put(shown_name(placement));
     text.put(b" ");
     text.put_number(share as usize);
     text.put(b")");
