@@ -38,7 +38,5 @@ pub fn is_name(name: &[u8; NAME_BYTES]) -> bool
     ensures { result ≡ lawful_name name.now }
 {
     let n = letters(name);
-    let bytes: &[u8] = name;
-    let (_, rest) = bytes.split_at(n);
-    n > 0 && zeros(rest)
+    n > 0 && zeros(&name[n..])
 }
